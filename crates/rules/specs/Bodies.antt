@@ -5,14 +5,13 @@ use mathlib.Core.List.{List, [], _∷_}
 use lib.ListN.{getD, set}
 use lib.Dec.{ltb, leb, eqb}
 use Rattle.rules.specs.declared.Bodies.{Bodies}
+use Rattle.rules.specs.declared.Cursor.{Cursor}
+use Rattle.rules.specs.declared.Read.{Read}
+use Rattle.rules.specs.declared.Read.the-variants.{Byte, BadCell}
 use Rattle.rules.specs.Choice.{pick}
 use Rattle.rules.specs.Store.{nextOf, countOf, bodyByte, goodCount}
 
--- Where a body is read: its "cell" and "its place (bytes read of that cell)"
-pub record Cursor : Type 0 where
-  pub cell : ℕ
-  pub place : ℕ
-
+-- Where the body i is read: its "cell" and "its place (bytes read of that cell)"
 abbrev pub bodyAt : Bodies → ℕ → Cursor
 bodyAt y i = record { cell = getD (y .cells) i 0; place = getD (y .places) i 0 }
 
@@ -38,10 +37,6 @@ bytesLeft st y = not (eqb (depthLeft st y (y .depth)) 0)
 
 -- The byte that a body with bytes left gives, and the body after it. 13: "the cell a read body is in or moves on to
 -- has a count outside 1 to 30 or below the place kept"
-pub data Read : Type 0 where
-  BadCell : Read
-  Byte : ℕ → Cursor → Read
-
 unfoldable pub readCell : List ℕ → Cursor → Read
 readCell st x = Byte (bodyByte st (x .cell) (x .place)) (record { cell = x .cell; place = suc (x .place) })
 

@@ -2,7 +2,6 @@
 use Prim.Native.Nat.{ℕ, zero, suc, _+_, _*_, _-_}
 use mathlib.Core.Bool.{Bool, true, false, _&&_, _||_}
 use mathlib.Core.List.{List, [], _∷_, _++_}
-use mathlib.Core.Option.{Option, none, some}
 use lib.ListN.{getD, replicate}
 use lib.Dec.{ltb, leb, eqb}
 use Rattle.rules.specs.declared.Repertoire.{Repertoire}
@@ -22,6 +21,12 @@ use Rattle.rules.specs.declared.Control.{Control}
 use Rattle.rules.specs.declared.Control.the-variants.{Ignored, Locks, Shifts, Escapes, Barred, Recorded}
 use Rattle.rules.specs.declared.Class.{Class}
 use Rattle.rules.specs.declared.Class.the-variants.{Below, Column2, Above}
+use Rattle.rules.specs.declared.Final.{Final}
+use Rattle.rules.specs.declared.Final.the-variants.{Opens, Refuses, UsesG2, UsesG3, Closes, NoMeaning}
+use Rattle.rules.specs.declared.Designated.{Designated}
+use Rattle.rules.specs.declared.Designated.the-variants.{Names, Unassigned}
+use Rattle.rules.specs.declared.Inner.{Inner}
+use Rattle.rules.specs.declared.Inner.the-variants.{OpensNext, Bars, EndsBody, StartsAfresh, StoresBoth}
 use Rattle.rules.specs.declared.Action.{Action}
 use Rattle.rules.specs.declared.Action.the-variants.{Idle, Close, Control as Control·action, Character, Opcode, Data}
 use Rattle.rules.specs.declared.Refusal.{Refusal}
@@ -88,9 +93,6 @@ inBody false d c st b = keep Body (storeByte (filling d c st) b) c
 
 -- What a byte after an ESC does in a definition: "ESC 4/5" ends it, "ESC 4/0" "opens the next", of "ESC ESC the first is
 -- stored and the second starts afresh", "5 applies only to ESC 4/1 to 4/4", "ESC and another byte are both stored"
-pub data Inner : Type 0 where
-  OpensNext Bars EndsBody StartsAfresh StoresBoth : Inner
-
 unfoldable pub innerOf : ℕ → Inner
 innerOf b =
     pick (eqb b 64) OpensNext
@@ -109,9 +111,6 @@ inBodyEscape StoresBoth d c st b = keep Body (storeEscapeAnd (filling d c st) b)
 
 -- "Two-byte: 4/0 above; 4/1 to 4/4 refused; 6/14 and 6/15 put G2, G3 in use; 4/5 to 5/15 only close the open command";
 -- "Every other sequence is ignored"
-pub data Final : Type 0 where
-  Opens Refuses UsesG2 UsesG3 Closes NoMeaning : Final
-
 unfoldable pub finalOf : ℕ → Final
 finalOf b =
     pick (eqb b 64) Opens
@@ -139,18 +138,18 @@ unfoldable pub designatorOf : ℕ → Waiting
 designatorOf b = getD designators (b - 32) Longer
 
 -- "third 4/2 primary, 7/12 supplementary, 5/7 PDI, 7/13 mosaic, 7/10 macro, 7/11 DRCS"
-unfoldable pub designatedBy : ℕ → Option Set
+unfoldable pub designatedBy : ℕ → Designated
 designatedBy b =
-    pick (eqb b 66) (some (Characters Primary))
-    (pick (eqb b 124) (some (Characters Supplementary))
-    (pick (eqb b 87) (some Pdi)
-    (pick (eqb b 125) (some (Characters Mosaic))
-    (pick (eqb b 122) (some Macro)
-    (pick (eqb b 123) (some (Characters Drcs)) none)))))
+    pick (eqb b 66) (Names (Characters Primary))
+    (pick (eqb b 124) (Names (Characters Supplementary))
+    (pick (eqb b 87) (Names Pdi)
+    (pick (eqb b 125) (Names (Characters Mosaic))
+    (pick (eqb b 122) (Names Macro)
+    (pick (eqb b 123) (Names (Characters Drcs)) Unassigned)))))
 
-unfoldable pub designation : Option Set → Element → Coding → List ℕ → Reaction
-designation none e c st = React c st Idle
-designation (some x) e c st = React (withSets (designate e x (c .sets)) c) st Idle
+unfoldable pub designation : Designated → Element → Coding → List ℕ → Reaction
+designation Unassigned e c st = React c st Idle
+designation (Names x) e c st = React (withSets (designate e x (c .sets)) c) st Idle
 
 -- Controls: "0/0 to 0/6 do nothing. 0/15 and 0/14 put G0, G1 in use. 1/9 and 1/13 take the next byte from G2, G3."
 -- "1/12 and 1/15 are refused. Other controls close the open command and write kind 7"; 1/11 is ESC

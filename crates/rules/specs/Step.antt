@@ -7,6 +7,8 @@ use Rattle.rules.specs.declared.Waiting.{Waiting}
 use Rattle.rules.specs.declared.Status.{Status}
 use Rattle.rules.specs.declared.Coding.{Coding}
 use Rattle.rules.specs.declared.Bodies.{Bodies}
+use Rattle.rules.specs.declared.Read.{Read}
+use Rattle.rules.specs.declared.Read.the-variants.{Byte, BadCell}
 use Rattle.rules.specs.declared.Drawing.{Drawing}
 use Rattle.rules.specs.declared.Record.{Record}
 use Rattle.rules.specs.declared.Refusal.{Refusal}
@@ -14,7 +16,7 @@ use Rattle.rules.specs.declared.Refusal.the-variants.{DefinitionInBody, 
 use Rattle.rules.specs.declared.Session.{Session}
 use Rattle.rules.specs.Choice.{pick}
 use Rattle.rules.specs.Store.{firstOf}
-use Rattle.rules.specs.Bodies.{unspent, bodyAt, readBody, Read, BadCell, Byte, withBody, mostDepth, pushed}
+use Rattle.rules.specs.Bodies.{unspent, bodyAt, readBody, withBody, mostDepth, pushed}
 use Rattle.rules.specs.Coding.{Reaction, Refuse, Call, React, react, afterEscape}
 use Rattle.rules.specs.Drawing.{Outcome, Refuse as Refuse·drawing, Draw, act}
 

@@ -83,6 +83,31 @@ pub enum Class {
     Above,
 }
 
+// What the final byte of a two-byte escape sequence does.
+pub enum Final {
+    Opens,
+    Refuses,
+    UsesG2,
+    UsesG3,
+    Closes,
+    NoMeaning,
+}
+
+// What the final byte of a designating escape sequence names.
+pub enum Designated {
+    Names(Set),
+    Unassigned,
+}
+
+// What a byte after an ESC does in a definition.
+pub enum Inner {
+    OpensNext,
+    Bars,
+    EndsBody,
+    StartsAfresh,
+    StoresBoth,
+}
+
 // What the coding layer asks of the drawing layer.
 pub enum Action {
     Idle,
@@ -98,6 +123,24 @@ pub struct Bodies {
     pub depth: u8,
     pub cells: [u8; 8],
     pub places: [u8; 8],
+}
+
+// Where a body is read.
+pub struct Cursor {
+    pub cell: u8,
+    pub place: u8,
+}
+
+// What reading a body with bytes left gives: a byte and where the body is read next, or a cell with a bad count.
+pub enum Read {
+    Byte(u8, Cursor),
+    BadCell,
+}
+
+// The last cell of a chain, unless the chain is longer than is looked.
+pub enum Chain {
+    Ends(u8),
+    TooLong,
 }
 
 // The drawing layer.
