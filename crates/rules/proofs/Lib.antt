@@ -1,3 +1,16 @@
 pub mod Compute
+pub mod Bools
+pub mod Tables
 pub mod WorkedPages
 pub mod WorkedCalls
+pub mod DrawingRanges
+pub mod RecordCount
+pub mod CodingRanges
+pub mod Steps
+pub mod Readings
+pub mod Cutting
+pub mod Pending
+pub mod Simulation
+pub mod Expanding
+pub mod CallLaws
+pub mod Demand3
