@@ -1,0 +1,97 @@
+-- The code's test on patterns is the rule's test on signed numbers, by the signs of the summands; and a sum in range is exact
+use mathlib.Core.Path.{_≡_, refl, sym, ap, _∙_}
+use mathlib.Core.Bool.{Bool, true, false, not, cond, _&&_, _||_}
+use Prim.Native.Nat.{ℕ, suc, _+_, _-_, _^_, _≤_, _<_}
+use native.Mathlib.Omega.{arith}
+use borrow.Author.Tests.{lt-ltb, le-ltb, le-leb, lt-leb, ltb-true, ltb-false, leb-true, leb-false}
+use lib.Dec.{ltb, leb}
+use lib.IntN.{pos, negsuc, subℕ, _+ℤ_, +ℤ-comm}
+use Rattle.rules.specs.Operands.{signed, inRange, wrappedSum, leavesRange}
+
+pub low : (a : ℕ) → a < 2 ^ 31 → signed a ≡ pos a
+unfolding signed
+low a h = rw (lt-ltb a (2 ^ 31) h)
+
+pub high : (a : ℕ) → 2 ^ 31 ≤ a → a < 2 ^ 32 → signed a ≡ negsuc (2 ^ 32 - suc a)
+unfolding signed
+high a h k = rw (le-ltb a (2 ^ 31) h, lt-ltb a (2 ^ 32) k)
+
+by-truth : (x y : Bool) → (x ≡ true → y ≡ true) → (x ≡ false → y ≡ false) → x ≡ y
+by-truth true y p q = sym (p refl)
+by-truth false y p q = sym (q refl)
+
+-- A difference of two numbers of 31 bits is in range
+apart : (m n : ℕ) → m < 2 ^ 31 → n ≤ 2 ^ 31 → inRange (subℕ m n) ≡ true
+unfolding inRange
+apart m n p q = go (ltb m n) refl
+  where
+    go : (t : Bool) → ltb m n ≡ t → unfold inRange in (inRange (cond t (negsuc (n - suc m)) (pos (m - n))) ≡ true)
+    go true e = rw (le-leb (n - suc m) (2 ^ 31 - 1) (omega (arith, ltb-true m n e)))
+    go false e = lt-ltb (m - n) (2 ^ 31) (omega arith)
+
+-- Whether a sum leaves the range, by the signs
+module _ (a b s : ℕ) (fa : a < 2 ^ 32) (fb : b < 2 ^ 32) (e : s ≡ wrappedSum a b) where
+  pub low-low : a < 2 ^ 31 → b < 2 ^ 31 → leb (2 ^ 31) s ≡ leavesRange a b
+  unfolding leavesRange inRange wrappedSum
+  low-low p q =
+      rw (low a p, low b q)
+      (by-truth (leb (2 ^ 31) s) (not (ltb (a + b) (2 ^ 31)))
+      (λ t. ap not (le-ltb (a + b) (2 ^ 31) (omega (arith, leb-true (2 ^ 31) s t))))
+      (λ t. ap not (lt-ltb (a + b) (2 ^ 31) (omega (arith, leb-false (2 ^ 31) s t)))))
+
+  pub high-high : 2 ^ 31 ≤ a → 2 ^ 31 ≤ b → ltb s (2 ^ 31) ≡ leavesRange a b
+  unfolding leavesRange inRange wrappedSum
+  high-high p q =
+      let m = suc (2 ^ 32 - suc a + (2 ^ 32 - suc b)) in
+      rw (high a p fa, high b q fb)
+      (by-truth (ltb s (2 ^ 31)) (not (leb m (2 ^ 31 - 1) && true))
+      (λ t. ap (λ (x : Bool). not (x && true)) (lt-leb m (2 ^ 31 - 1) (omega (arith, ltb-true s (2 ^ 31) t))))
+      (λ t. ap (λ (x : Bool). not (x && true)) (le-leb m (2 ^ 31 - 1) (omega (arith, ltb-false s (2 ^ 31) t)))))
+
+  pub low-high : a < 2 ^ 31 → 2 ^ 31 ≤ b → false ≡ leavesRange a b
+  unfolding leavesRange
+  low-high p q = rw (low a p, high b q fb) (ap not (sym (apart a (suc (2 ^ 32 - suc b)) p (omega arith))))
+
+  pub high-low : 2 ^ 31 ≤ a → b < 2 ^ 31 → false ≡ leavesRange a b
+  unfolding leavesRange
+  high-low p q = rw (high a p fa, low b q) (ap not (sym (apart b (suc (2 ^ 32 - suc a)) q (omega arith))))
+
+-- Unlike signs: the patterns' sum wraps exactly where the numbers' sum is not negative
+mixed : (a b s : ℕ) → s ≡ wrappedSum a b → a < 2 ^ 31 → 2 ^ 31 ≤ b → b < 2 ^ 32 → signed s ≡ signed a +ℤ signed b
+unfolding wrappedSum
+mixed a b s e p q fb = rw (low a p, high b q fb) (go (ltb a (suc (2 ^ 32 - suc b))) refl)
+  where
+    go : (t : Bool) → ltb a (suc (2 ^ 32 - suc b)) ≡ t → signed s ≡ cond t (negsuc (suc (2 ^ 32 - suc b) - suc a)) (pos (a - suc (2 ^ 32 - suc b)))
+    go true d =
+        let h = ltb-true a (suc (2 ^ 32 - suc b)) d in
+        high s (omega arith) (omega arith) ∙ ap negsuc (omega arith)
+    go false d =
+        let h = ltb-false a (suc (2 ^ 32 - suc b)) d in
+        low s (omega arith) ∙ ap pos (omega arith)
+
+exact-at : (a b s : ℕ) → s ≡ wrappedSum a b → a < 2 ^ 32 → b < 2 ^ 32 → leavesRange a b ≡ false → (t u : Bool) → ltb a (2 ^ 31) ≡ t → ltb b (2 ^ 31) ≡ u → signed s ≡ signed a +ℤ signed b
+unfolding wrappedSum
+exact-at a b s e fa fb stays true true d f =
+    let p = ltb-true a (2 ^ 31) d in
+    let q = ltb-true b (2 ^ 31) f in
+    let h = leb-false (2 ^ 31) s (low-low a b s fa fb e p q ∙ stays) in
+    rw (low a p, low b q) (low s h ∙ ap pos (omega arith))
+exact-at a b s e fa fb stays false false d f =
+    let p = ltb-false a (2 ^ 31) d in
+    let q = ltb-false b (2 ^ 31) f in
+    let h = ltb-false s (2 ^ 31) (high-high a b s fa fb e p q ∙ stays) in
+    rw (high a p fa, high b q fb) (high s h (omega arith) ∙ ap negsuc (omega arith))
+exact-at a b s e fa fb stays true false d f = mixed a b s e (ltb-true a (2 ^ 31) d) (ltb-false b (2 ^ 31) f) fb
+exact-at a b s e fa fb stays false true d f =
+    mixed b a s (omega arith) (ltb-true b (2 ^ 31) f) (ltb-false a (2 ^ 31) d) fa ∙ +ℤ-comm (signed b) (signed a)
+
+-- A sum that stays in range is the sum of the numbers
+pub exact : (a b : ℕ) → a < 2 ^ 32 → b < 2 ^ 32 → leavesRange a b ≡ false → signed (wrappedSum a b) ≡ signed a +ℤ signed b
+exact a b fa fb stays = exact-at a b (wrappedSum a b) refl fa fb stays (ltb a (2 ^ 31)) (ltb b (2 ^ 31)) refl refl
+
+-- Either of two tests, as the code takes the second only where the first fails
+pub either-first : {a p : Bool} (q : Bool) → a ≡ p → a ≡ true → a ≡ p || q
+either-first q e h = rw (sym e ∙ h) h
+
+pub either-second : {a b p q : Bool} → a ≡ p → b ≡ q → a ≡ false → b ≡ p || q
+either-second e f h = rw (sym e ∙ h) f

@@ -1,0 +1,13 @@
+-- Bytes written at a place of the output
+use Prim.Native.Nat.{ℕ, _+_}
+use mathlib.Core.List.{List, [], _∷_, _++_}
+use lib.ListN.{length, take, drop}
+use Rattle.rules.specs.declared.Record.{Record}
+
+-- The list with bs at a place, every other byte kept
+unfoldable pub overwrite : ℕ → List ℕ → List ℕ → List ℕ
+overwrite at bs l = take at l ++ (bs ++ drop (at + length bs) l)
+
+-- The bytes before the coordinates
+abbrev pub headOf : Record → List ℕ
+headOf r = r .kind ∷ r .flags ∷ r .mode ∷ r .colour0 ∷ r .colour1 ∷ r .colour2 ∷ r .set ∷ r .code ∷ []

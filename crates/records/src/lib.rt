@@ -1,0 +1,170 @@
+// Records: their fields as the rules fill them, and their 40 bytes at a place of the output.
+ghost use mathlib.Core.Path.{_≡_};
+ghost use Prim.Native.Nat.{_+_, _≤_};
+ghost use lib.ListN.{length};
+ghost use Rattle.rules.specs.Record.{word, words, bytesOf, flag, flags, modeNumber, setNumber, recordOf, mark, figure};
+ghost use Rattle.records.specs.Bytes.{overwrite, headOf};
+ghost use Rattle.records.specs.Fields.{inkOf};
+use rules::Colour;
+use rules::Look;
+use rules::Mode;
+use rules::Point;
+use rules::Record;
+use rules::Repertoire;
+
+const ORIGIN: Point = Point { x: 0, y: 0 };
+
+fn put_word(out: &mut [u8], at: usize, n: u32)
+    requires { ⌜ at + 4 ≤ length (now out) ⌝ }
+    ensures { λ _. ⌜ now (out .exit) ≡ overwrite at (word n) (now (out .entry)) ⌝ }
+{
+    out[at] = (n % 256) as u8;
+    out[at + 1] = (n / 256 % 256) as u8;
+    out[at + 2] = (n / 65536 % 256) as u8;
+    out[at + 3] = (n / 16777216 % 256) as u8;
+}
+
+fn put_point(out: &mut [u8], at: usize, p: Point)
+    requires { ⌜ at + 8 ≤ length (now out) ⌝ }
+    ensures { λ _. ⌜ now (out .exit) ≡ overwrite at (words p) (now (out .entry)) ⌝ }
+{
+    put_word(out, at, p.x);
+    put_word(out, at + 4, p.y);
+}
+
+fn put_head(out: &mut [u8], at: usize, r: Record)
+    requires { ⌜ at + 8 ≤ length (now out) ⌝ }
+    ensures { λ _. ⌜ now (out .exit) ≡ overwrite at (headOf r) (now (out .entry)) ⌝ }
+{
+    out[at] = r.kind;
+    out[at + 1] = r.flags;
+    out[at + 2] = r.mode;
+    out[at + 3] = r.colour0;
+    out[at + 4] = r.colour1;
+    out[at + 5] = r.colour2;
+    out[at + 6] = r.set;
+    out[at + 7] = r.code;
+}
+
+pub fn put_record(out: &mut [u8], at: usize, r: Record)
+    requires { ⌜ at + 40 ≤ length (now out) ⌝ }
+    ensures { λ _. ⌜ now (out .exit) ≡ overwrite at (bytesOf r) (now (out .entry)) ⌝ }
+{
+    put_head(out, at, r);
+    put_point(out, at + 8, r.p0);
+    put_point(out, at + 16, r.p1);
+    put_point(out, at + 24, r.p2);
+    put_point(out, at + 32, r.pel);
+}
+
+fn flag(told: bool, n: u8) -> u8
+    ensures { λ r. ⌜ r ≡ flag told n ⌝ }
+{
+    if told { n } else { 0 }
+}
+
+pub fn flags(filled: bool, wrapped: bool, closing: bool) -> u8
+    ensures { λ r. ⌜ r ≡ flags filled wrapped closing ⌝ }
+{
+    flag(filled, 1) + (flag(wrapped, 2) + flag(closing, 4))
+}
+
+pub fn mode_number(mode: Mode) -> u8
+    ensures { λ r. ⌜ r ≡ modeNumber mode ⌝ }
+{
+    match mode {
+        Mode::Direct => 0,
+        Mode::Mapped => 1,
+        Mode::TwoColour => 2,
+    }
+}
+
+pub fn set_number(set: Repertoire) -> u8
+    ensures { λ r. ⌜ r ≡ setNumber set ⌝ }
+{
+    match set {
+        Repertoire::Primary => 0,
+        Repertoire::Supplementary => 1,
+        Repertoire::Mosaic => 2,
+        Repertoire::Drcs => 3,
+    }
+}
+
+// The mode and the colour bytes of a record.
+struct Ink {
+    mode: u8,
+    colour0: u8,
+    colour1: u8,
+    colour2: u8,
+}
+
+fn ink_of(c: Colour) -> Ink
+    ensures { λ r. ⌜ r ≡ inkOf c ⌝ }
+{
+    let mode = c.mode;
+    let number = mode_number(mode);
+    match mode {
+        Mode::Direct => Ink {
+            mode: number,
+            colour0: c.green,
+            colour1: c.red,
+            colour2: c.blue,
+        },
+        Mode::Mapped => Ink {
+            mode: number,
+            colour0: c.foreground,
+            colour1: 0,
+            colour2: 0,
+        },
+        Mode::TwoColour => Ink {
+            mode: number,
+            colour0: c.foreground,
+            colour1: c.background,
+            colour2: 0,
+        },
+    }
+}
+
+pub fn record_of(
+    look: Look,
+    kind: u8,
+    flags: u8,
+    set: u8,
+    code: u8,
+    p0: Point,
+    p1: Point,
+    p2: Point,
+) -> Record
+    ensures { λ r. ⌜ r ≡ recordOf look kind flags set code p0 p1 p2 ⌝ }
+{
+    let colour = look.colour;
+    let ink = ink_of(colour);
+    let domain = look.domain;
+    let pel = domain.pel;
+    Record {
+        kind,
+        flags,
+        mode: ink.mode,
+        colour0: ink.colour0,
+        colour1: ink.colour1,
+        colour2: ink.colour2,
+        set,
+        code,
+        p0,
+        p1,
+        p2,
+        pel,
+    }
+}
+
+pub fn mark(look: Look, kind: u8, set: u8, code: u8, p: Point) -> Record
+    ensures { λ r. ⌜ r ≡ mark look kind set code p ⌝ }
+{
+    record_of(look, kind, 0, set, code, p, ORIGIN, ORIGIN)
+}
+
+pub fn figure(look: Look, kind: u8, flags: u8, p0: Point, p1: Point, p2: Point) -> Record
+    ensures { λ r. ⌜ r ≡ figure look kind flags p0 p1 p2 ⌝ }
+{
+    record_of(look, kind, flags, 0, 0, p0, p1, p2)
+}
