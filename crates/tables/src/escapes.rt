@@ -96,7 +96,7 @@ pub fn after_escape(w: Waiting) -> bool
 }
 
 pub fn unfinished(w: Waiting) -> bool
-    ensures { λ r. ⌜ r ≡ Rattle.rules.specs.Coding.unfinished w ⌝ }
+    ensures { λ r. ⌜ r ≡ unfinished w ⌝ }
 {
     match w {
         Waiting::Nothing => false,

@@ -6,7 +6,7 @@ use rules::Set;
 use rules::Sets;
 use rules::SingleShift;
 ghost use mathlib.Core.Path.{_≡_};
-ghost use Rattle.rules.specs.Coding.{setOf, inUse, shiftedTo};
+ghost use Rattle.rules.specs.Coding.{setOf, inUse, designate, shiftedTo, character};
 
 pub fn set_of(e: Element, s: Sets) -> Set
     ensures { λ r. ⌜ r ≡ setOf e s ⌝ }
@@ -36,7 +36,7 @@ pub fn in_use(e: Element, s: Sets) -> Sets
 }
 
 pub fn designate(e: Element, x: Set, s: Sets) -> Sets
-    ensures { λ r. ⌜ r ≡ Rattle.rules.specs.Coding.designate e x s ⌝ }
+    ensures { λ r. ⌜ r ≡ designate e x s ⌝ }
 {
     let g0 = s.g0;
     let g1 = s.g1;
@@ -86,7 +86,7 @@ pub fn shifted_to(s: SingleShift) -> Element
 
 // DEL of primary and supplementary does nothing.
 pub fn character(x: Repertoire, b: u8) -> Action
-    ensures { λ r. ⌜ r ≡ Rattle.rules.specs.Coding.character x b ⌝ }
+    ensures { λ r. ⌜ r ≡ character x b ⌝ }
 {
     if b == 127 {
         return delete(x);
@@ -95,7 +95,7 @@ pub fn character(x: Repertoire, b: u8) -> Action
 }
 
 fn delete(x: Repertoire) -> Action
-    ensures { λ r. ⌜ r ≡ Rattle.rules.specs.Coding.character x 127 ⌝ }
+    ensures { λ r. ⌜ r ≡ character x 127 ⌝ }
 {
     match x {
         Repertoire::Primary => Action::Idle,

@@ -1,28 +1,32 @@
+use mathlib.Core.Path.{refl, ap}
 use borrow.Author.Needs.{needs}
+use borrow.Author.Tests.{lt-ltb, le-ltb}
+use Rattle.rules.specs.declared.Control.the-variants.{Ignored}
+use Rattle.rules.specs.declared.Class.the-variants.{Below}
+use Rattle.rules.specs.Coding.{controls, classOf}
+use Rattle.tables.proofs.Tables.{at}
 use Rattle.tables.proofs.controls.class_of.Statement.{statement}
 use Rattle.tables.proofs.controls.class_of.Tie as tie
-use Rattle.tables.proofs.controls.class_of.Reads as reads
-use Rattle.tables.proofs.controls.class_of.Lts as lts
 
--- src/controls.rt:48:23
 mul-control : tie.Need-mul-control
 mul-control c = search needs
 
--- src/controls.rt:48:23
 array-copy-out-control : tie.Need-array-copy-out-control
 array-copy-out-control c = search needs
 
--- src/controls.rt:49:9
-returns : tie.Need-returns
-returns c = ?
+control : tie.Need-returns
+unfolding controls classOf
+control c =
+    let b = c .before .before .args .b in
+    rw (lt-ltb b 32 (c .before .if1 .taken)) (ap Below (at controls refl b _ Ignored (search needs)))
 
--- src/controls.rt:52:9
-returns-2 : tie.Need-returns-2
-returns-2 c = ?
+column-2 : tie.Need-returns-2
+unfolding classOf
+column-2 c = simp (le-ltb _ _ (c .before .if1 .left), lt-ltb _ _ (c .if2 .taken))
 
--- src/controls.rt:44:1
-returns-3 : tie.Need-returns-3
-returns-3 c = ?
+above : tie.Need-returns-3
+unfolding classOf
+above c = simp (le-ltb _ _ (c .before .if1 .left), le-ltb _ _ (c .if2 .left))
 
 pub class-of-spec : {M : Type 1} → statement M
-class-of-spec = tie.close (tie.spec mul-control array-copy-out-control returns returns-2 returns-3)
+class-of-spec = tie.close (tie.spec mul-control array-copy-out-control control column-2 above)

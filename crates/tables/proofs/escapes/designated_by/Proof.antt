@@ -1,36 +1,30 @@
+use borrow.Author.Tests.{ne-eqb}
+use Rattle.rules.specs.Coding.{designatedBy}
 use Rattle.tables.proofs.escapes.designated_by.Statement.{statement}
 use Rattle.tables.proofs.escapes.designated_by.Tie as tie
-use Rattle.tables.proofs.escapes.designated_by.Reads as reads
-use Rattle.tables.proofs.escapes.designated_by.Lts as lts
 
--- src/escapes.rt:44:1
-returns : tie.Need-returns
-returns c = ?
-
--- src/escapes.rt:44:1
-returns-2 : tie.Need-returns-2
-returns-2 c = ?
-
--- src/escapes.rt:44:1
-returns-3 : tie.Need-returns-3
-returns-3 c = ?
-
--- src/escapes.rt:44:1
-returns-4 : tie.Need-returns-4
-returns-4 c = ?
-
--- src/escapes.rt:44:1
-returns-5 : tie.Need-returns-5
-returns-5 c = ?
-
--- src/escapes.rt:44:1
-returns-6 : tie.Need-returns-6
-returns-6 c = ?
-
--- src/escapes.rt:44:1
-returns-7 : tie.Need-returns-7
-returns-7 c = ?
+unassigned : tie.Need-returns-7
+unfolding designatedBy
+unassigned c =
+    let rest = c .match .rest in
+    simp (
+      ne-eqb _ _ (rest .0 .0 .0 .0 .0 .1),
+      ne-eqb _ _ (rest .0 .0 .0 .0 .1),
+      ne-eqb _ _ (rest .0 .0 .0 .1),
+      ne-eqb _ _ (rest .0 .0 .1),
+      ne-eqb _ _ (rest .0 .1),
+      ne-eqb _ _ (rest .1),
+    )
 
 pub designated-by-spec : {M : Type 1} → statement M
+unfolding designatedBy
 designated-by-spec =
-    tie.close (tie.spec returns returns-2 returns-3 returns-4 returns-5 returns-6 returns-7)
+    tie.close
+    (tie.spec
+    (λ c. rw (c .match .keys1))
+    (λ c. rw (c .match .keys2))
+    (λ c. rw (c .match .keys3))
+    (λ c. rw (c .match .keys4))
+    (λ c. rw (c .match .keys5))
+    (λ c. rw (c .match .keys6))
+    unassigned)

@@ -1,32 +1,32 @@
+use mathlib.Core.Path.{refl}
+use Prim.Native.Nat.{_-_}
 use borrow.Author.Needs.{needs}
+use Rattle.rules.specs.declared.Waiting.the-variants.{Longer}
+use Rattle.rules.specs.Coding.{designators, designatorOf}
+use Rattle.tables.proofs.Tables.{at, below, past}
 use Rattle.tables.proofs.escapes.designator_of.Statement.{statement}
 use Rattle.tables.proofs.escapes.designator_of.Tie as tie
-use Rattle.tables.proofs.escapes.designator_of.Reads as reads
-use Rattle.tables.proofs.escapes.designator_of.Lts as lts
 
--- src/escapes.rt:36:9
 returns : tie.Need-returns
-returns c = ?
+unfolding designators designatorOf
+returns c = below designators Longer (c .before .args .b) 32 (search needs)
 
--- src/escapes.rt:39:28
 cast-result : tie.Need-cast-result
 cast-result c = search needs
 
--- src/escapes.rt:39:16
 mul-result : tie.Need-mul-result
 mul-result c = search needs
 
--- src/escapes.rt:39:16
 array-copy-out-result : tie.Need-array-copy-out-result
 array-copy-out-result c = search needs
 
--- src/escapes.rt:39:9
 returns-2 : tie.Need-returns-2
-returns-2 c = ?
+unfolding designators designatorOf
+returns-2 c = at designators refl (c .before .before .before .args .b - 32) _ Longer (search needs)
 
--- src/escapes.rt:32:1
 returns-3 : tie.Need-returns-3
-returns-3 c = ?
+unfolding designators designatorOf
+returns-3 c = past designators Longer (c .before .before .args .b) 32 (search needs)
 
 pub designator-of-spec : {M : Type 1} → statement M
 designator-of-spec =

@@ -1,36 +1,50 @@
+use borrow.Author.Tests.{ne-eqb}
+use native.Mathlib.Omega.{arith}
+use Rattle.rules.specs.Coding.{finalOf}
+use Rattle.tables.proofs.Spans.{inside, under, over}
 use Rattle.tables.proofs.escapes.final_of.Statement.{statement}
 use Rattle.tables.proofs.escapes.final_of.Tie as tie
-use Rattle.tables.proofs.escapes.final_of.Reads as reads
-use Rattle.tables.proofs.escapes.final_of.Lts as lts
 
--- src/escapes.rt:58:1
-returns : tie.Need-returns
-returns c = ?
+opens : tie.Need-returns
+unfolding finalOf
+opens c = rw (c .match .keys1)
 
--- src/escapes.rt:58:1
-returns-2 : tie.Need-returns-2
-returns-2 c = ?
+uses-g2 : tie.Need-returns-2
+unfolding finalOf
+uses-g2 c = rw (c .match .keys2)
 
--- src/escapes.rt:58:1
-returns-3 : tie.Need-returns-3
-returns-3 c = ?
+uses-g3 : tie.Need-returns-3
+unfolding finalOf
+uses-g3 c = rw (c .match .keys3)
 
--- src/escapes.rt:58:1
-returns-4 : tie.Need-returns-4
-returns-4 c = ?
+refuses : tie.Need-returns-4
+unfolding finalOf
+refuses c =
+    let b = c .before .before .before .args .b in
+    let not-64 = c .before .before .match .rest .0 .0 .1 in
+    simp (ne-eqb b 64 not-64, inside 65 b 68 (omega (arith, not-64)) (omega arith))
 
--- src/escapes.rt:58:1
-returns-5 : tie.Need-returns-5
-returns-5 c = ?
+closes : tie.Need-returns-5
+unfolding finalOf
+closes c =
+    let b = c .before .before .before .before .args .b in
+    simp (ne-eqb b 64 (λ e. omega arith), over 65 b 68 (omega arith), inside 69 b 95 (omega arith) (omega arith))
 
--- src/escapes.rt:58:1
-returns-6 : tie.Need-returns-6
-returns-6 c = ?
+below : tie.Need-returns-6
+unfolding finalOf
+below c =
+    let b = c .before .before .args .b in
+    let rest = c .before .match .rest in
+    simp
+    (ne-eqb b 64 (rest .0 .0 .1), under 65 b 68 (omega arith), under 69 b 95 (omega arith), ne-eqb b 110 (rest .0 .1), ne-eqb b 111 (rest .1))
 
--- src/escapes.rt:58:1
-returns-7 : tie.Need-returns-7
-returns-7 c = ?
+above : tie.Need-returns-7
+unfolding finalOf
+above c =
+    let b = c .before .before .before .before .args .b in
+    let rest = c .before .before .before .match .rest in
+    simp
+    (ne-eqb b 64 (rest .0 .0 .1), over 65 b 68 (omega arith), over 69 b 95 (omega arith), ne-eqb b 110 (rest .0 .1), ne-eqb b 111 (rest .1))
 
 pub final-of-spec : {M : Type 1} → statement M
-final-of-spec =
-    tie.close (tie.spec returns returns-2 returns-3 returns-4 returns-5 returns-6 returns-7)
+final-of-spec = tie.close (tie.spec opens uses-g2 uses-g3 refuses closes below above)

@@ -1,31 +1,42 @@
+use borrow.Author.Tests.{ne-eqb}
+use native.Mathlib.Omega.{arith}
+use Rattle.rules.specs.Coding.{innerOf}
+use Rattle.tables.proofs.Spans.{inside, under, over}
 use Rattle.tables.proofs.escapes.inner_of.Statement.{statement}
 use Rattle.tables.proofs.escapes.inner_of.Tie as tie
-use Rattle.tables.proofs.escapes.inner_of.Reads as reads
-use Rattle.tables.proofs.escapes.inner_of.Lts as lts
 
--- src/escapes.rt:71:1
-returns : tie.Need-returns
-returns c = ?
+opens-next : tie.Need-returns
+unfolding innerOf
+opens-next c = rw (c .match .keys1)
 
--- src/escapes.rt:71:1
-returns-2 : tie.Need-returns-2
-returns-2 c = ?
+ends-body : tie.Need-returns-2
+unfolding innerOf
+ends-body c = rw (c .match .keys2)
 
--- src/escapes.rt:71:1
-returns-3 : tie.Need-returns-3
-returns-3 c = ?
+starts-afresh : tie.Need-returns-3
+unfolding innerOf
+starts-afresh c = rw (c .match .keys3)
 
--- src/escapes.rt:71:1
-returns-4 : tie.Need-returns-4
-returns-4 c = ?
+bars : tie.Need-returns-4
+unfolding innerOf
+bars c =
+    let b = c .before .before .before .args .b in
+    let not-64 = c .before .before .match .rest .0 .0 .1 in
+    simp (ne-eqb b 64 not-64, inside 65 b 68 (omega (arith, not-64)) (omega arith))
 
--- src/escapes.rt:71:1
-returns-5 : tie.Need-returns-5
-returns-5 c = ?
+below : tie.Need-returns-5
+unfolding innerOf
+below c =
+    let b = c .before .before .args .b in
+    let rest = c .before .match .rest in
+    simp (ne-eqb b 64 (rest .0 .0 .1), under 65 b 68 (omega arith), ne-eqb b 69 (rest .0 .1), ne-eqb b 27 (rest .1))
 
--- src/escapes.rt:71:1
-returns-6 : tie.Need-returns-6
-returns-6 c = ?
+above : tie.Need-returns-6
+unfolding innerOf
+above c =
+    let b = c .before .before .before .args .b in
+    let rest = c .before .before .match .rest in
+    simp (ne-eqb b 64 (rest .0 .0 .1), over 65 b 68 (omega arith), ne-eqb b 69 (rest .0 .1), ne-eqb b 27 (rest .1))
 
 pub inner-of-spec : {M : Type 1} → statement M
-inner-of-spec = tie.close (tie.spec returns returns-2 returns-3 returns-4 returns-5 returns-6)
+inner-of-spec = tie.close (tie.spec opens-next ends-body starts-afresh bars below above)
