@@ -80,32 +80,24 @@ pub fn inner_of(b: u8) -> Inner
     }
 }
 
+// Whether an ESC was read last, in a definition or outside one.
 pub fn after_escape(w: Waiting) -> bool
     ensures { λ r. ⌜ r ≡ afterEscape w ⌝ }
 {
     match w {
-        Waiting::Nothing => false,
-        Waiting::Shifted(_) => false,
         Waiting::Escape => true,
-        Waiting::Designator(_) => false,
-        Waiting::Longer => false,
-        Waiting::Name => false,
-        Waiting::Body(_) => false,
         Waiting::BodyEscape(_) => true,
+        _ => false,
     }
 }
 
+// Whether an escape sequence or a definition is not finished.
 pub fn unfinished(w: Waiting) -> bool
     ensures { λ r. ⌜ r ≡ unfinished w ⌝ }
 {
     match w {
         Waiting::Nothing => false,
         Waiting::Shifted(_) => false,
-        Waiting::Escape => true,
-        Waiting::Designator(_) => true,
-        Waiting::Longer => true,
-        Waiting::Name => true,
-        Waiting::Body(_) => true,
-        Waiting::BodyEscape(_) => true,
+        _ => true,
     }
 }

@@ -254,52 +254,29 @@ pub fn due_after(p: Pattern, n: Due) -> Due
         Pattern::D => Due::First,
         Pattern::AA => alternate(n),
         Pattern::AD => alternate(n),
-        Pattern::ArcDD => advance(n),
-        Pattern::ArcADD => advance(n),
-        Pattern::PolygonD => advance(n),
-        Pattern::PolygonAD => advance(n),
-        Pattern::Domain => advance(n),
-        Pattern::SelectColour => advance(n),
-        Pattern::SetColour => advance(n),
-        Pattern::Skipped => advance(n),
+        _ => advance(n),
     }
 }
 
+// The bytes of an operand; 0 where data is dropped.
 pub fn length_of(r: Role, d: Domain) -> u8
     ensures { λ n. ⌜ n ≡ lengthOf r d ⌝ }
 {
     match r {
-        Role::MoveTo => d.multi,
-        Role::DrawTo => d.multi,
-        Role::DrawBy => d.multi,
-        Role::Middle => d.multi,
-        Role::ArcEnd => d.multi,
-        Role::Start => d.multi,
-        Role::Edge => d.multi,
         Role::Lengths => 1,
-        Role::Pel => d.multi,
         Role::Foreground => d.single,
         Role::Background => d.single,
-        Role::Shade => d.multi,
         Role::Dropped => 0,
+        _ => d.multi,
     }
 }
 
+// The bytes that an operand of a pattern has at most.
 pub fn operand_length(p: Pattern, d: Domain) -> u8
     ensures { λ n. ⌜ n ≡ operandLength p d ⌝ }
 {
     match p {
-        Pattern::A => d.multi,
-        Pattern::D => d.multi,
-        Pattern::AA => d.multi,
-        Pattern::AD => d.multi,
-        Pattern::ArcDD => d.multi,
-        Pattern::ArcADD => d.multi,
-        Pattern::PolygonD => d.multi,
-        Pattern::PolygonAD => d.multi,
-        Pattern::Domain => d.multi,
         Pattern::SelectColour => d.single,
-        Pattern::SetColour => d.multi,
-        Pattern::Skipped => d.multi,
+        _ => d.multi,
     }
 }
