@@ -44,12 +44,9 @@ const CONTROLS: [Control; 32] = [
 pub fn class_of(b: u8) -> Class
     ensures { λ r. ⌜ r ≡ classOf b ⌝ }
 {
-    if b < 32 {
-        let control = CONTROLS[b as usize];
-        return Class::Below(control);
+    match b {
+        0..=31 => Class::Below(CONTROLS[b as usize]),
+        32..=47 => Class::Column2,
+        _ => Class::Above,
     }
-    if b < 48 {
-        return Class::Column2;
-    }
-    Class::Above
 }

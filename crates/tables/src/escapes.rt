@@ -32,13 +32,10 @@ const DESIGNATORS: [Waiting; 16] = [
 pub fn designator_of(b: u8) -> Waiting
     ensures { λ r. ⌜ r ≡ designatorOf b ⌝ }
 {
-    if b < 32 {
-        return Waiting::Longer;
+    match b {
+        32..=47 => DESIGNATORS[(b - 32) as usize],
+        _ => Waiting::Longer,
     }
-    if b < 48 {
-        return DESIGNATORS[(b - 32) as usize];
-    }
-    Waiting::Longer
 }
 
 pub fn designated_by(b: u8) -> Designated

@@ -174,20 +174,18 @@ const ROWS: [Row; 32] = [
     OTHER,
 ];
 
+// The row of an open command. No command has opcode 0, and its data is dropped like that of a skipped opcode.
 pub fn row_of(opcode: u8) -> Row
     ensures { λ r. ⌜ r ≡ rowOf opcode ⌝ }
 {
-    if opcode < 32 {
-        return OTHER;
+    match opcode {
+        32..=63 => ROWS[(opcode - 32) as usize],
+        _ => OTHER,
     }
-    if opcode < 64 {
-        return ROWS[(opcode - 32) as usize];
-    }
-    OTHER
 }
 
-// The role of the operand that is due, by those of a pattern's operands.
-fn role_due(n: Due, first: Role, second: Role, third: Role, past: Role) -> Role
+// The role of the operand that is due, of those that a pattern lists.
+fn nth_role(n: Due, first: Role, second: Role, third: Role, past: Role) -> Role
     ensures { λ r. ⌜ r ≡ nth n first second third past ⌝ }
 {
     match n {
@@ -204,21 +202,21 @@ pub fn role_of(p: Pattern, n: Due) -> Role
     match p {
         Pattern::A => Role::DrawTo,
         Pattern::D => Role::DrawBy,
-        Pattern::AA => role_due(n, Role::MoveTo, Role::DrawTo, Role::DrawTo, Role::DrawTo),
-        Pattern::AD => role_due(n, Role::MoveTo, Role::DrawBy, Role::DrawBy, Role::DrawBy),
-        Pattern::ArcDD => role_due(n, Role::Middle, Role::ArcEnd, Role::Dropped, Role::Dropped),
-        Pattern::ArcADD => role_due(n, Role::MoveTo, Role::Middle, Role::ArcEnd, Role::Dropped),
+        Pattern::AA => nth_role(n, Role::MoveTo, Role::DrawTo, Role::DrawTo, Role::DrawTo),
+        Pattern::AD => nth_role(n, Role::MoveTo, Role::DrawBy, Role::DrawBy, Role::DrawBy),
+        Pattern::ArcDD => nth_role(n, Role::Middle, Role::ArcEnd, Role::Dropped, Role::Dropped),
+        Pattern::ArcADD => nth_role(n, Role::MoveTo, Role::Middle, Role::ArcEnd, Role::Dropped),
         Pattern::PolygonD => Role::Edge,
-        Pattern::PolygonAD => role_due(n, Role::Start, Role::Edge, Role::Edge, Role::Edge),
-        Pattern::Domain => role_due(n, Role::Lengths, Role::Pel, Role::Dropped, Role::Dropped),
-        Pattern::SelectColour => role_due(
+        Pattern::PolygonAD => nth_role(n, Role::Start, Role::Edge, Role::Edge, Role::Edge),
+        Pattern::Domain => nth_role(n, Role::Lengths, Role::Pel, Role::Dropped, Role::Dropped),
+        Pattern::SelectColour => nth_role(
             n,
             Role::Foreground,
             Role::Background,
             Role::Dropped,
             Role::Dropped,
         ),
-        Pattern::SetColour => role_due(n, Role::Shade, Role::Dropped, Role::Dropped, Role::Dropped),
+        Pattern::SetColour => nth_role(n, Role::Shade, Role::Dropped, Role::Dropped, Role::Dropped),
         Pattern::Skipped => Role::Dropped,
     }
 }

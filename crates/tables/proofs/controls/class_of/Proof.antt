@@ -8,12 +8,7 @@ use Rattle.tables.proofs.Tables.{at}
 use Rattle.tables.proofs.controls.class_of.Statement.{statement}
 use Rattle.tables.proofs.controls.class_of.Tie as tie
 
-mul-control : tie.Need-mul-control
-mul-control c = search needs
-
-array-copy-out-control : tie.Need-array-copy-out-control
-array-copy-out-control c = search needs
-
+-- `refl` is the test of all rows
 control : tie.Need-returns
 unfolding controls classOf
 control c =
@@ -29,4 +24,4 @@ unfolding classOf
 above c = simp (le-ltb _ _ (c .before .if1 .left), le-ltb _ _ (c .if2 .left))
 
 pub class-of-spec : {M : Type 1} → statement M
-class-of-spec = tie.close (tie.spec mul-control array-copy-out-control control column-2 above)
+class-of-spec = tie.close (tie.spec (λ c. search needs) (λ c. search needs) control column-2 above)

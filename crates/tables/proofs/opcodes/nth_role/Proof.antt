@@ -1,9 +1,9 @@
 use borrow.Author.Needs.{needs}
-use Rattle.tables.proofs.opcodes.role_due.Statement.{statement}
-use Rattle.tables.proofs.opcodes.role_due.Tie as tie
+use Rattle.tables.proofs.opcodes.nth_role.Statement.{statement}
+use Rattle.tables.proofs.opcodes.nth_role.Tie as tie
 
-pub role-due-spec : {M : Type 1} → statement M
-role-due-spec =
+pub nth-role-spec : {M : Type 1} → statement M
+nth-role-spec =
     tie.close
     (tie.spec
     (λ c. search needs)
