@@ -1,0 +1,24 @@
+use mathlib.Core.Path.{_∙_}
+use borrow.Author.Needs.{needs}
+use Rattle.rules.specs.Drawing.{dueAfter}
+use Rattle.tables.proofs.Rest.{advances}
+use Rattle.tables.proofs.opcodes.due_after.Statement.{statement}
+use Rattle.tables.proofs.opcodes.due_after.Tie as tie
+
+pub due-after-spec : {M : Type 1} → statement M
+unfolding dueAfter
+due-after-spec =
+    tie.close
+    (tie.spec
+    (λ c. search needs)
+    (λ c. search needs)
+    (λ c. search needs)
+    (λ c κs. search needs)
+    (λ c. search needs)
+    (λ c κs. search needs)
+    (λ c κs. search needs)
+    (λ c. search needs)
+    (λ c. search needs)
+    (λ c. search needs)
+    (λ c. search needs)
+    (λ c. c .advance .ensures ∙ advances (c .before .before .args .p) (c .before .before .args .n) (c .before .match .keys5)))

@@ -1,0 +1,20 @@
+use borrow.Author.Needs.{needs}
+use Rattle.rules.specs.Drawing.{lengthOf}
+use Rattle.tables.proofs.Rest.{multi-length}
+use Rattle.tables.proofs.opcodes.length_of.Statement.{statement}
+use Rattle.tables.proofs.opcodes.length_of.Tie as tie
+
+pub length-of-spec : {M : Type 1} → statement M
+unfolding lengthOf
+length-of-spec =
+    tie.close
+    (tie.spec
+    (λ c. search needs)
+    (λ c. search needs)
+    (λ c. search needs)
+    (λ c. search needs)
+    (λ c. search needs)
+    (λ c. search needs)
+    (λ c. search needs)
+    (λ c. search needs)
+    (λ c. multi-length (c .before .args .r) (c .before .args .d) (c .match .keys5)))

@@ -1,0 +1,25 @@
+use mathlib.Core.Path.{refl}
+use Prim.Native.Nat.{_-_}
+use borrow.Author.Needs.{needs}
+use Rattle.rules.specs.Drawing.{rows, rowOf, other}
+use Rattle.tables.proofs.Tables.{at, before, past}
+use Rattle.tables.proofs.opcodes.row_of.Statement.{statement}
+use Rattle.tables.proofs.opcodes.row_of.Tie as tie
+
+-- `refl` is the test of all rows
+in-table : tie.Need-returns
+unfolding rows rowOf
+in-table c = at rows refl (c .before .before .before .args .opcode - 32) _ other (search needs)
+
+before-table : tie.Need-returns-2
+unfolding rows rowOf
+before-table c = before rows other (c .before .args .opcode) 32 (search needs)
+
+past-table : tie.Need-returns-3
+unfolding rows rowOf
+past-table c = past rows other (c .before .before .args .opcode) 32 (search needs)
+
+pub row-of-spec : {M : Type 1} → statement M
+row-of-spec =
+    tie.close
+    (tie.spec (λ c. search needs) (λ c. search needs) (λ c. search needs) in-table before-table past-table)

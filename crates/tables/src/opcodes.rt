@@ -1,0 +1,280 @@
+// The opcodes: what each one draws, and what its operands are for.
+use rules::Domain;
+use rules::Due;
+use rules::Pattern;
+use rules::Role;
+use rules::Row;
+ghost use mathlib.Core.Path.{_≡_};
+ghost use Rattle.rules.specs.Drawing.{rowOf, nth, roleOf, advanced, dueAfter, lengthOf};
+ghost use Rattle.rules.specs.Ranges.{operandLength};
+
+// The row of an opcode whose data is dropped.
+const OTHER: Row = Row {
+    pattern: Pattern::Skipped,
+    kind: 9,
+    filled: false,
+};
+
+const ROWS: [Row; 32] = [
+    // 2/0 RESET
+    OTHER,
+    // 2/1 DOMAIN
+    Row {
+        pattern: Pattern::Domain,
+        kind: 0,
+        filled: false,
+    },
+    // 2/2 TEXT
+    OTHER,
+    // 2/3 TEXTURE
+    OTHER,
+    // 2/4 POINT SET, absolute
+    Row {
+        pattern: Pattern::A,
+        kind: 0,
+        filled: false,
+    },
+    // 2/5 POINT SET, relative
+    Row {
+        pattern: Pattern::D,
+        kind: 0,
+        filled: false,
+    },
+    // 2/6 POINT, absolute
+    Row {
+        pattern: Pattern::A,
+        kind: 1,
+        filled: false,
+    },
+    // 2/7 POINT, relative
+    Row {
+        pattern: Pattern::D,
+        kind: 1,
+        filled: false,
+    },
+    // 2/8 LINE, absolute
+    Row {
+        pattern: Pattern::A,
+        kind: 2,
+        filled: false,
+    },
+    // 2/9 LINE, relative
+    Row {
+        pattern: Pattern::D,
+        kind: 2,
+        filled: false,
+    },
+    // 2/10 SET AND LINE, absolute
+    Row {
+        pattern: Pattern::AA,
+        kind: 2,
+        filled: false,
+    },
+    // 2/11 SET AND LINE, relative
+    Row {
+        pattern: Pattern::AD,
+        kind: 2,
+        filled: false,
+    },
+    // 2/12 ARC, outlined
+    Row {
+        pattern: Pattern::ArcDD,
+        kind: 3,
+        filled: false,
+    },
+    // 2/13 ARC, filled
+    Row {
+        pattern: Pattern::ArcDD,
+        kind: 3,
+        filled: true,
+    },
+    // 2/14 SET AND ARC, outlined
+    Row {
+        pattern: Pattern::ArcADD,
+        kind: 3,
+        filled: false,
+    },
+    // 2/15 SET AND ARC, filled
+    Row {
+        pattern: Pattern::ArcADD,
+        kind: 3,
+        filled: true,
+    },
+    // 3/0 RECTANGLE, outlined
+    Row {
+        pattern: Pattern::D,
+        kind: 4,
+        filled: false,
+    },
+    // 3/1 RECTANGLE, filled
+    Row {
+        pattern: Pattern::D,
+        kind: 4,
+        filled: true,
+    },
+    // 3/2 SET AND RECTANGLE, outlined
+    Row {
+        pattern: Pattern::AD,
+        kind: 4,
+        filled: false,
+    },
+    // 3/3 SET AND RECTANGLE, filled
+    Row {
+        pattern: Pattern::AD,
+        kind: 4,
+        filled: true,
+    },
+    // 3/4 POLYGON, outlined
+    Row {
+        pattern: Pattern::PolygonD,
+        kind: 5,
+        filled: false,
+    },
+    // 3/5 POLYGON, filled
+    Row {
+        pattern: Pattern::PolygonD,
+        kind: 5,
+        filled: true,
+    },
+    // 3/6 SET AND POLYGON, outlined
+    Row {
+        pattern: Pattern::PolygonAD,
+        kind: 5,
+        filled: false,
+    },
+    // 3/7 SET AND POLYGON, filled
+    Row {
+        pattern: Pattern::PolygonAD,
+        kind: 5,
+        filled: true,
+    },
+    // 3/8 FIELD
+    OTHER,
+    // 3/9 INCREMENTAL POINT
+    OTHER,
+    // 3/10 INCREMENTAL LINE
+    OTHER,
+    // 3/11 INCREMENTAL POLYGON, filled
+    OTHER,
+    // 3/12 SET COLOUR
+    Row {
+        pattern: Pattern::SetColour,
+        kind: 8,
+        filled: false,
+    },
+    // 3/13 WAIT
+    OTHER,
+    // 3/14 SELECT COLOUR
+    Row {
+        pattern: Pattern::SelectColour,
+        kind: 0,
+        filled: false,
+    },
+    // 3/15 BLINK
+    OTHER,
+];
+
+// The row of an open command. No command has opcode 0, and its data is dropped like that of a skipped opcode.
+pub fn row_of(opcode: u8) -> Row
+    ensures { λ r. ⌜ r ≡ rowOf opcode ⌝ }
+{
+    match opcode {
+        32..=63 => ROWS[(opcode - 32) as usize],
+        _ => OTHER,
+    }
+}
+
+// The role of the operand that is due, of those that a pattern lists.
+fn nth_role(n: Due, first: Role, second: Role, third: Role, past: Role) -> Role
+    ensures { λ r. ⌜ r ≡ nth n first second third past ⌝ }
+{
+    match n {
+        Due::First => first,
+        Due::Second => second,
+        Due::Third => third,
+        Due::Past => past,
+    }
+}
+
+pub fn role_of(p: Pattern, n: Due) -> Role
+    ensures { λ r. ⌜ r ≡ roleOf p n ⌝ }
+{
+    match p {
+        Pattern::A => Role::DrawTo,
+        Pattern::D => Role::DrawBy,
+        Pattern::AA => nth_role(n, Role::MoveTo, Role::DrawTo, Role::DrawTo, Role::DrawTo),
+        Pattern::AD => nth_role(n, Role::MoveTo, Role::DrawBy, Role::DrawBy, Role::DrawBy),
+        Pattern::ArcDD => nth_role(n, Role::Middle, Role::ArcEnd, Role::Dropped, Role::Dropped),
+        Pattern::ArcADD => nth_role(n, Role::MoveTo, Role::Middle, Role::ArcEnd, Role::Dropped),
+        Pattern::PolygonD => Role::Edge,
+        Pattern::PolygonAD => nth_role(n, Role::Start, Role::Edge, Role::Edge, Role::Edge),
+        Pattern::Domain => nth_role(n, Role::Lengths, Role::Pel, Role::Dropped, Role::Dropped),
+        Pattern::SelectColour => nth_role(
+            n,
+            Role::Foreground,
+            Role::Background,
+            Role::Dropped,
+            Role::Dropped,
+        ),
+        Pattern::SetColour => nth_role(n, Role::Shade, Role::Dropped, Role::Dropped, Role::Dropped),
+        Pattern::Skipped => Role::Dropped,
+    }
+}
+
+fn advance(n: Due) -> Due
+    ensures { λ r. ⌜ r ≡ advanced n ⌝ }
+{
+    match n {
+        Due::First => Due::Second,
+        Due::Second => Due::Third,
+        Due::Third => Due::Past,
+        Due::Past => Due::Past,
+    }
+}
+
+// A pattern of two operands begins anew after the second.
+fn alternate(n: Due) -> Due
+    ensures { λ r. ⌜ r ≡ dueAfter Pattern.AA n ⌝ }
+{
+    match n {
+        Due::First => Due::Second,
+        Due::Second => Due::First,
+        Due::Third => Due::First,
+        Due::Past => Due::First,
+    }
+}
+
+pub fn due_after(p: Pattern, n: Due) -> Due
+    ensures { λ r. ⌜ r ≡ dueAfter p n ⌝ }
+{
+    match p {
+        Pattern::A => Due::First,
+        Pattern::D => Due::First,
+        Pattern::AA => alternate(n),
+        Pattern::AD => alternate(n),
+        _ => advance(n),
+    }
+}
+
+// The bytes of an operand; 0 where data is dropped.
+pub fn length_of(r: Role, d: Domain) -> u8
+    ensures { λ n. ⌜ n ≡ lengthOf r d ⌝ }
+{
+    match r {
+        Role::Lengths => 1,
+        Role::Foreground => d.single,
+        Role::Background => d.single,
+        Role::Dropped => 0,
+        _ => d.multi,
+    }
+}
+
+// The bytes that an operand of a pattern has at most.
+pub fn operand_length(p: Pattern, d: Domain) -> u8
+    ensures { λ n. ⌜ n ≡ operandLength p d ⌝ }
+{
+    match p {
+        Pattern::SelectColour => d.single,
+        _ => d.multi,
+    }
+}

@@ -1,0 +1,106 @@
+// The code elements and the sets that they name.
+use rules::Action;
+use rules::Element;
+use rules::Repertoire;
+use rules::Set;
+use rules::Sets;
+use rules::SingleShift;
+ghost use mathlib.Core.Path.{_≡_};
+ghost use Rattle.rules.specs.Coding.{setOf, inUse, designate, shiftedTo, character};
+
+pub fn set_of(e: Element, s: Sets) -> Set
+    ensures { λ r. ⌜ r ≡ setOf e s ⌝ }
+{
+    match e {
+        Element::G0 => s.g0,
+        Element::G1 => s.g1,
+        Element::G2 => s.g2,
+        Element::G3 => s.g3,
+    }
+}
+
+pub fn in_use(e: Element, s: Sets) -> Sets
+    ensures { λ r. ⌜ r ≡ inUse e s ⌝ }
+{
+    let g0 = s.g0;
+    let g1 = s.g1;
+    let g2 = s.g2;
+    let g3 = s.g3;
+    Sets {
+        g0,
+        g1,
+        g2,
+        g3,
+        used: e,
+    }
+}
+
+pub fn designate(e: Element, x: Set, s: Sets) -> Sets
+    ensures { λ r. ⌜ r ≡ designate e x s ⌝ }
+{
+    let g0 = s.g0;
+    let g1 = s.g1;
+    let g2 = s.g2;
+    let g3 = s.g3;
+    let used = s.used;
+    match e {
+        Element::G0 => Sets {
+            g0: x,
+            g1,
+            g2,
+            g3,
+            used,
+        },
+        Element::G1 => Sets {
+            g0,
+            g1: x,
+            g2,
+            g3,
+            used,
+        },
+        Element::G2 => Sets {
+            g0,
+            g1,
+            g2: x,
+            g3,
+            used,
+        },
+        Element::G3 => Sets {
+            g0,
+            g1,
+            g2,
+            g3: x,
+            used,
+        },
+    }
+}
+
+pub fn shifted_to(s: SingleShift) -> Element
+    ensures { λ r. ⌜ r ≡ shiftedTo s ⌝ }
+{
+    match s {
+        SingleShift::Ss2 => Element::G2,
+        SingleShift::Ss3 => Element::G3,
+    }
+}
+
+// DEL of primary and supplementary does nothing.
+pub fn character(x: Repertoire, b: u8) -> Action
+    ensures { λ r. ⌜ r ≡ character x b ⌝ }
+{
+    if b == 127 {
+        return delete(x);
+    }
+    Action::Character(x, b)
+}
+
+fn delete(x: Repertoire) -> Action
+    ensures { λ r. ⌜ r ≡ character x 127 ⌝ }
+{
+    match x {
+        Repertoire::Primary => Action::Idle,
+        Repertoire::Supplementary => Action::Idle,
+        Repertoire::Mosaic => Action::Character(Repertoire::Mosaic, 127),
+        Repertoire::Drcs => Action::Character(Repertoire::Drcs, 127),
+    }
+}
