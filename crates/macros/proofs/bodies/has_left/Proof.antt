@@ -1,0 +1,30 @@
+use borrow.Author.Needs.{needs}
+use Rattle.macros.proofs.bodies.has_left.Statement.{statement}
+use Rattle.macros.proofs.bodies.has_left.Tie as tie
+use Rattle.macros.proofs.bodies.has_left.Reads as reads
+use Rattle.macros.proofs.bodies.has_left.Lts as lts
+use Rattle.macros.proofs.cells.count_of.Reads as count-of-reads
+use Rattle.macros.proofs.cells.next_of.Reads as next-of-reads
+
+-- src/bodies.rt:18:9
+returns : tie.Need-returns
+returns c = ?
+
+-- src/bodies.rt:20:18
+count-of-requires : tie.Need-count-of-requires
+count-of-requires c κs = search needs
+
+-- src/bodies.rt:21:9
+returns-2 : tie.Need-returns-2
+returns-2 c = ?
+
+-- src/bodies.rt:23:5
+next-of-requires : tie.Need-next-of-requires
+next-of-requires c κs = search needs
+
+-- src/bodies.rt:13:1
+returns-3 : tie.Need-returns-3
+returns-3 c = ?
+
+pub has-left-spec : {M : Type 1} → statement M
+has-left-spec = tie.close (tie.spec returns count-of-requires returns-2 next-of-requires returns-3)

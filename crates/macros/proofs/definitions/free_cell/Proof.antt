@@ -1,0 +1,21 @@
+use borrow.Author.Needs.{needs}
+use Rattle.macros.proofs.definitions.free_cell.Statement.{statement}
+use Rattle.macros.proofs.definitions.free_cell.Tie as tie
+use Rattle.macros.proofs.definitions.free_cell.Reads as reads
+use Rattle.macros.proofs.definitions.free_cell.Lts as lts
+use Rattle.macros.proofs.cells.next_of.Reads as next-of-reads
+
+-- src/definitions.rt:112:8
+next-of-requires : tie.Need-next-of-requires
+next-of-requires c κs = search needs
+
+-- src/definitions.rt:113:9
+returns : tie.Need-returns
+returns c = ?
+
+-- src/definitions.rt:108:1
+returns-2 : tie.Need-returns-2
+returns-2 c = ?
+
+pub free-cell-spec : {M : Type 1} → statement M
+free-cell-spec = tie.close (tie.spec next-of-requires returns returns-2)
