@@ -47,11 +47,11 @@ pub fn read_body(store: &[u8], x: Cursor) -> Read
     if !good_count(count) {
         return Read::BadCell;
     }
-    if x.place < count {
-        return read_cell(store, x);
-    }
     if count < x.place {
         return Read::BadCell;
+    }
+    if x.place < count {
+        return read_cell(store, x);
     }
     let next = next_of(store, x.cell);
     if !good_count(count_of(store, next)) {

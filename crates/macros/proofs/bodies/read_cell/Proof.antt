@@ -1,3 +1,5 @@
+use native.Mathlib.Numerals.{add-one}
+use Rattle.rules.specs.Bodies.{readCell}
 use borrow.Author.Needs.{needs}
 use Rattle.macros.proofs.bodies.read_cell.Statement.{statement}
 use Rattle.macros.proofs.bodies.read_cell.Tie as tie
@@ -15,7 +17,10 @@ add-t4 c = search needs
 
 -- src/bodies.rt:27:1
 returns : tie.Need-returns
-returns c = ?
+unfolding readCell
+returns c =
+    let body-byte· = c .before .body-byte in
+    simp (← body-byte· .ensures, add-one)
 
 pub read-cell-spec : {M : Type 1} → statement M
 read-cell-spec = tie.close (tie.spec body-byte-requires add-t4 returns)

@@ -1,0 +1,31 @@
+use borrow.Author.Needs.{needs}
+use Rattle.macros.proofs.definitions.link_cell.Statement.{statement}
+use Rattle.macros.proofs.definitions.link_cell.Tie as tie
+use Rattle.macros.proofs.definitions.link_cell.Reads as reads
+use Rattle.macros.proofs.definitions.link_cell.Lts as lts
+use Rattle.macros.proofs.cells.set_next.Reads as set-next-reads
+use Rattle.macros.proofs.definitions.set_first.Reads as set-first-reads
+
+-- src/definitions.rt:63:9
+set-first-requires : tie.Need-set-first-requires
+set-first-requires c κs = search needs
+
+-- src/definitions.rt:64:9
+returns : tie.Need-returns
+returns c = ?
+
+-- src/definitions.rt:66:5
+set-next-requires : tie.Need-set-next-requires
+set-next-requires c κs = search needs
+
+-- src/definitions.rt:54:1
+same-length : tie.Need-same-length
+same-length c = search needs
+
+-- src/definitions.rt:54:1
+returns-2 : tie.Need-returns-2
+returns-2 c = ?
+
+pub link-cell-spec : {M : Type 1} → statement M
+link-cell-spec =
+    tie.close (tie.spec set-first-requires returns set-next-requires same-length returns-2)
