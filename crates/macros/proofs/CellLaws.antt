@@ -3,15 +3,15 @@
 use mathlib.Core.Path.{_≡_, refl, sym, ap, _∙_}
 use mathlib.Core.Bool.{Bool, true, false, _&&_}
 use mathlib.Core.List.{List, [], _∷_, _++_}
-use Prim.Native.Nat.{ℕ, zero, suc, _+_, _*_, _<_, _≤_}
+use Prim.Native.Nat.{ℕ, zero, suc, _+_, _*_, _-_, _/_, _%_, _<_, _≤_}
 use native.Mathlib.Omega.{arith}
-use native.Mathlib.Nat.{not-suc-le-zero}
 use borrow.Author.Tests.{le-leb, leb-true}
 use lib.Dec.{leb}
-use lib.ListN.{length, getD, replicate, length-set, length-append, length-replicate, getD-replicate, List·getD-append}
-use lib.Seq.{getD-set-same, getD-set-other, getD-append-add}
+use lib.ListN.{length, getD, replicate, length-set, length-append, getD-replicate, List·getD-append}
+use lib.Seq.{getD-set-same, getD-set-other}
 use Rattle.rules.specs.Store.{nextOf, setNext, countOf, setCount, goodCount, setBodyByte, linked, freshStore}
 use Rattle.macros.specs.Lent.{Sized}
+use Rattle.macros.proofs.ListLaws.{getD-past}
 
 -- A good count is from 1 to 30
 and-left : (a b : Bool) → (a && b) ≡ true → a ≡ true
@@ -64,3 +64,58 @@ next-setCount st c v d = getD-set-other st (32 * c + 1) (32 * d) v 0 (omega arit
 pub next-setBodyByte : (st : List ℕ) (c i v d : ℕ) → i < 30 → nextOf (setBodyByte st c i v) d ≡ nextOf st d
 unfolding nextOf setBodyByte
 next-setBodyByte st c i v d h = getD-set-other st (32 * c + 2 + i) (32 * d) v 0 (omega arith)
+
+-- The linked cells by their bytes: byte 0 of a cell before the last, byte 0 of the last, and the bytes after byte 0
+pub length-linked : (n c : ℕ) → length (linked n c) ≡ 32 * n
+unfolding linked
+length-linked zero c = refl
+length-linked (suc zero) c = refl
+length-linked (suc (suc n)) c = length-append (suc c ∷ replicate 31 0) (linked (suc n) (suc c)) ∙ omega (arith, length-linked (suc n) (suc c))
+
+linked-next : (n c k : ℕ) → suc k < n → getD (linked n c) (32 * k) 0 ≡ suc (c + k)
+unfolding linked
+linked-next zero c k h = absurd (omega arith)
+linked-next (suc zero) c k h = absurd (omega arith)
+linked-next (suc (suc n)) c zero h = omega arith
+linked-next (suc (suc n)) c (suc k) h =
+    getD-past (suc c ∷ replicate 31 0) (linked (suc n) (suc c)) (32 * suc k) (32 * k) (omega arith) ∙ linked-next (suc n) (suc c) k (omega arith) ∙ omega arith
+
+linked-end : (n c : ℕ) → getD (linked (suc n) c) (32 * n) 0 ≡ 0
+unfolding linked
+linked-end zero c = refl
+linked-end (suc n) c = getD-past (suc c ∷ replicate 31 0) (linked (suc n) (suc c)) (32 * suc n) (32 * n) (omega arith) ∙ linked-end n (suc c)
+
+linked-inner : (n c k j : ℕ) → k < n → j < 31 → getD (linked n c) (32 * k + suc j) 0 ≡ 0
+unfolding linked
+linked-inner zero c k j h l = absurd (omega arith)
+linked-inner (suc zero) c k j h l = getD-replicate 32 (32 * k + suc j) 0 0 (omega arith)
+linked-inner (suc (suc n)) c zero j h l =
+    let e : 32 * 0 + suc j ≡ suc j = omega arith in
+    List·getD-append (suc c ∷ replicate 31 0) (linked (suc n) (suc c)) 0 (32 * 0 + suc j) (omega arith)
+    ∙ ap (λ (i : ℕ). getD (suc c ∷ replicate 31 0) i 0) e
+    ∙ getD-replicate 31 j 0 0 l
+linked-inner (suc (suc n)) c (suc k) j h l =
+    getD-past (suc c ∷ replicate 31 0) (linked (suc n) (suc c)) (32 * suc k + suc j) (32 * k + suc j) (omega arith) ∙ linked-inner (suc n) (suc c) k j (omega arith) l
+
+-- The fresh store, by the places of its bytes
+pub length-fresh : length freshStore ≡ 8192
+unfolding freshStore
+length-fresh = length-linked 256 0
+
+pub fresh-next : (i : ℕ) → i % 32 ≡ 0 → i < 8160 → i / 32 + 1 ≡ getD freshStore i 0
+unfolding freshStore
+fresh-next i m h =
+    let e : i ≡ 32 * (i / 32) = omega arith in
+    sym (ap (λ (j : ℕ). getD (linked 256 0) j 0) e ∙ linked-next 256 0 (i / 32) (omega arith) ∙ omega arith)
+
+pub fresh-end : (i : ℕ) → i % 32 ≡ 0 → 8160 ≤ i → i < 8192 → 0 ≡ getD freshStore i 0
+unfolding freshStore
+fresh-end i m h l =
+    let e : i ≡ 32 * 255 = omega arith in
+    sym (ap (λ (j : ℕ). getD (linked 256 0) j 0) e ∙ linked-end 255 0)
+
+pub fresh-inner : (i : ℕ) → (i % 32 ≡ 0 → ⊥) → i < 8192 → 0 ≡ getD freshStore i 0
+unfolding freshStore
+fresh-inner i m h =
+    let e : i ≡ 32 * (i / 32) + suc (i % 32 - 1) = omega arith in
+    sym (ap (λ (j : ℕ). getD (linked 256 0) j 0) e ∙ linked-inner 256 0 (i / 32) (i % 32 - 1) (omega arith) (omega arith))

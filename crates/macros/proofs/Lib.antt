@@ -1,3 +1,5 @@
 pub mod ListLaws
 pub mod CellLaws
 pub mod ChainLaws
+pub mod StoringLaws
+pub mod TwoBytes

@@ -6,7 +6,7 @@ use Prim.Native.Nat.{ℕ, suc, _+_, _<_, _≤_}
 use native.Mathlib.Numerals.{add-one}
 use native.Mathlib.Omega.{arith}
 use lib.ListN.{length, getD, set, take, drop, drop-of-length-le}
-use lib.Seq.{drop-cons, take-suc, set-at, take-all, length-take-le}
+use lib.Seq.{getD-append-add, drop-cons, take-suc, set-at, take-all, length-take-le}
 
 -- A list f written over a list s of its length: one element more, and all of them
 pub over-more : (s f : List ℕ) (i v : ℕ) → length s ≡ length f → i < length f → v ≡ getD f i 0
@@ -16,3 +16,7 @@ over-more s f i v e h ev =
 
 pub over-all : (s f : List ℕ) (i : ℕ) → length s ≡ i → length f ≡ i → take i f ++ drop i s ≡ f
 over-all s f i e h = rw (take-all i f (omega arith), drop-of-length-le s {i = i} (omega arith), append-nil)
+
+-- An element of the second of two lists that are joined
+pub getD-past : (xs ys : List ℕ) (i j : ℕ) → i ≡ length xs + j → getD (xs ++ ys) i 0 ≡ getD ys j 0
+getD-past xs ys i j e = ap (λ (k : ℕ). getD (xs ++ ys) k 0) e ∙ getD-append-add xs ys j 0

@@ -1,3 +1,5 @@
+use borrow.Author.Tests.{eq-eqb, ne-eqb}
+use Rattle.macros.specs.Storing.{freeCell}
 use borrow.Author.Needs.{needs}
 use Rattle.macros.proofs.definitions.free_cell.Statement.{statement}
 use Rattle.macros.proofs.definitions.free_cell.Tie as tie
@@ -11,11 +13,17 @@ next-of-requires c κs = search needs
 
 -- src/definitions.rt:113:9
 returns : tie.Need-returns
-returns c = ?
+unfolding freeCell
+returns c =
+    let next-of· = c .before .next-of in
+    simp (← next-of· .ensures, eq-eqb _ _ (c .if1 .taken))
 
 -- src/definitions.rt:108:1
 returns-2 : tie.Need-returns-2
-returns-2 c = ?
+unfolding freeCell
+returns-2 c =
+    let next-of· = c .before .next-of in
+    simp (← next-of· .ensures, ne-eqb _ _ (c .if1 .left))
 
 pub free-cell-spec : {M : Type 1} → statement M
 free-cell-spec = tie.close (tie.spec next-of-requires returns returns-2)

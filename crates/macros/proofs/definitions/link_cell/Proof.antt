@@ -1,3 +1,4 @@
+use Rattle.macros.proofs.StoringLaws.{link-first, link-more}
 use borrow.Author.Needs.{needs}
 use Rattle.macros.proofs.definitions.link_cell.Statement.{statement}
 use Rattle.macros.proofs.definitions.link_cell.Tie as tie
@@ -12,7 +13,9 @@ set-first-requires c κs = search needs
 
 -- src/definitions.rt:64:9
 returns : tie.Need-returns
-returns c = ?
+returns c =
+    let if1· = c .before .before .if1 in
+    link-first _ _ _ _ _ (if1· .taken) (c .set-first .ensures)
 
 -- src/definitions.rt:66:5
 set-next-requires : tie.Need-set-next-requires
@@ -24,7 +27,10 @@ same-length c = search needs
 
 -- src/definitions.rt:54:1
 returns-2 : tie.Need-returns-2
-returns-2 c = ?
+returns-2 c =
+    let if1· = c .before .before .before .before .if1 in
+    let set-next· = c .before .before .set-next in
+    link-more _ _ _ _ _ (if1· .left) (set-next· .ensures)
 
 pub link-cell-spec : {M : Type 1} → statement M
 link-cell-spec =

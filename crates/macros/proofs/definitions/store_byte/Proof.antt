@@ -1,3 +1,7 @@
+use mathlib.Core.Path.{refl, sym, _∙_}
+use native.Mathlib.Omega.{arith}
+use borrow.Author.Tests.{not-true, not-false}
+use Rattle.macros.proofs.StoringLaws.{byte-first, byte-bad, byte-in, byte-full, in-stored}
 use borrow.Author.Needs.{needs}
 use Rattle.macros.proofs.definitions.store_byte.Statement.{statement}
 use Rattle.macros.proofs.definitions.store_byte.Tie as tie
@@ -19,7 +23,10 @@ same-length c = search needs
 
 -- src/definitions.rt:93:9
 returns : tie.Need-returns
-returns c = ?
+returns c =
+    let store-in-new· = c .before .before .store-in-new in
+    let if1· = c .before .before .before .before .before .if1 in
+    (store-in-new· .ensures .0 ∙ sym (byte-first _ _ (if1· .taken)), store-in-new· .ensures .1)
 
 -- src/definitions.rt:95:9
 count-of-requires : tie.Need-count-of-requires
@@ -35,7 +42,11 @@ same-length-2 c = search needs
 
 -- src/definitions.rt:97:9
 returns-2 : tie.Need-returns-2
-returns-2 c = ?
+returns-2 c =
+    let count-of· = c .before .before .count-of in
+    let if1· = c .before .before .before .before .if1 in
+    let good-count· = c .before .good-count in
+    (sym (byte-bad _ _ _ (count-of· .ensures) (if1· .left) (sym (good-count· .ensures) ∙ not-true (good-count· .result) (c .if2 .taken))), (refl, refl))
 
 -- src/definitions.rt:100:9
 set-body-byte-requires : tie.Need-set-body-byte-requires
@@ -55,7 +66,15 @@ same-length-3 c = search needs
 
 -- src/definitions.rt:102:9
 returns-3 : tie.Need-returns-3
-returns-3 c = ?
+returns-3 c =
+    let set-body-byte· = c .before .before .before .before .before .before .set-body-byte in
+    let set-count· = c .before .before .set-count in
+    let count-of· = c .before .before .before .before .before .before .before .before .before .before .before .count-of in
+    let if1· = c .before .before .before .before .before .before .before .before .before .before .before .before .before .if1 in
+    let good-count· = c .before .before .before .before .before .before .before .before .before .before .good-count in
+    let if2· = c .before .before .before .before .before .before .before .before .before .if2 in
+    let if3· = c .before .before .before .before .before .before .before .before .if3 in
+    (in-stored _ _ _ _ _ _ _ (set-body-byte· .ensures) (set-count· .ensures) ∙ sym (byte-in _ _ _ (count-of· .ensures) (if1· .left) (sym (good-count· .ensures) ∙ not-false (good-count· .result) (if2· .left)) (if3· .taken)), tt)
 
 -- src/definitions.rt:104:5
 store-in-new-requires-2 : tie.Need-store-in-new-requires-2
@@ -67,7 +86,14 @@ same-length-4 c = search needs
 
 -- src/definitions.rt:87:1
 returns-4 : tie.Need-returns-4
-returns-4 c = ?
+returns-4 c =
+    let store-in-new2· = c .before .before .store-in-new2 in
+    let count-of· = c .before .before .before .before .before .before .before .before .count-of in
+    let if1· = c .before .before .before .before .before .before .before .before .before .before .if1 in
+    let good-count· = c .before .before .before .before .before .before .before .good-count in
+    let if2· = c .before .before .before .before .before .before .if2 in
+    let if3· = c .before .before .before .before .before .if3 in
+    (store-in-new2· .ensures .0 ∙ sym (byte-full _ _ _ (count-of· .ensures) (if1· .left) (sym (good-count· .ensures) ∙ not-false (good-count· .result) (if2· .left)) (if3· .left)), store-in-new2· .ensures .1)
 
 pub store-byte-spec : {M : Type 1} → statement M
 store-byte-spec =

@@ -1,3 +1,7 @@
+use mathlib.Core.Path.{refl, sym, _∙_, ap}
+use native.Mathlib.Omega.{arith}
+use Rattle.rules.specs.Store.{nextOf}
+use Rattle.macros.proofs.TwoBytes.{same-name, two-refused, first-stored, both-stored}
 use borrow.Author.Needs.{needs}
 use Rattle.macros.proofs.definitions.store_escape_and.Statement.{statement}
 use Rattle.macros.proofs.definitions.store_escape_and.Tie as tie
@@ -32,7 +36,11 @@ enum-known-longer c = search needs
 
 -- src/definitions.rt:146:42
 store-byte-requires-2 : tie.Need-store-byte-requires-2
-store-byte-requires-2 c κs = ?
+store-byte-requires-2 c κs =
+    let pre· = c .before .before .before .before .before .before .before .before .before .before .before .before .before .before .before .pre in
+    let store-byte· = c .before .before .before .before .before .before .before .store-byte in
+    let longer· = c .before .before .before .longer in
+    (search needs, omega (arith, pre· .1, same-name _ _ _ _ _ _ (store-byte· .ensures .0) (longer· .given .1)))
 
 -- src/definitions.rt:137:1
 same-length : tie.Need-same-length
@@ -40,7 +48,13 @@ same-length c = search needs
 
 -- src/definitions.rt:137:1
 returns : tie.Need-returns
-returns c = ?
+unfolding nextOf
+returns c =
+    let pre· = c .before .before .before .before .before .before .pre in
+    let slice-known· = c .before .before .before .before .before .slice-known in
+    let refusal· = c .before .refusal in
+    let room-for-two· = c .before .before .before .room-for-two in
+    (two-refused _ _ (pre· .0) (omega arith) (slice-known· .given 0 .fits) _ (sym (refusal· .given .1) ∙ room-for-two· .ensures), (refl, refl))
 
 -- src/definitions.rt:137:1
 same-length-2 : tie.Need-same-length-2
@@ -48,7 +62,16 @@ same-length-2 c = search needs
 
 -- src/definitions.rt:137:1
 returns-2 : tie.Need-returns-2
-returns-2 c = ?
+unfolding nextOf
+returns-2 c =
+    let args· = c .before .before .before .before .before .before .before .before .before .before .before .before .before .args in
+    let pre· = c .before .before .before .before .before .before .before .before .before .before .before .before .before .pre in
+    let slice-known· = c .before .before .before .before .before .before .before .before .before .before .before .before .slice-known in
+    let enum-told· = c .before .before .before .before .before .before .before .before .enum-told in
+    let room-for-two· = c .before .before .before .before .before .before .before .before .before .before .room-for-two in
+    let store-byte· = c .before .before .before .before .before .store-byte in
+    let refusal2· = c .before .refusal2 in
+    absurd (first-stored _ (args· .b) (pre· .0) (omega arith) (slice-known· .given 0 .fits) (sym (enum-told· .given .1) ∙ room-for-two· .ensures) _ _ _ (store-byte· .ensures .0) _ (refusal2· .given .1))
 
 -- src/definitions.rt:137:1
 same-length-3 : tie.Need-same-length-3
@@ -56,7 +79,17 @@ same-length-3 c = search needs
 
 -- src/definitions.rt:137:1
 returns-3 : tie.Need-returns-3
-returns-3 c = ?
+unfolding nextOf
+returns-3 c =
+    let pre· = c .before .before .before .before .before .before .before .before .before .before .before .before .before .before .before .before .before .before .pre in
+    let good· = c .before .before .before .before .before .before .before .before .before .before .before .before .before .before .before .before .before .before .good in
+    let slice-known· = c .before .before .before .before .before .before .before .before .before .before .before .before .before .before .before .before .before .slice-known in
+    let enum-told· = c .before .before .before .before .before .before .before .before .before .before .before .before .before .enum-told in
+    let room-for-two· = c .before .before .before .before .before .before .before .before .before .before .before .before .before .before .before .room-for-two in
+    let store-byte· = c .before .before .before .before .before .before .before .before .before .before .store-byte in
+    let store-byte2· = c .before .before .store-byte2 in
+    let longer· = c .before .before .before .before .before .before .longer in
+    both-stored _ _ (pre· .0) (omega (arith, good·)) (slice-known· .given 0 .fits) (sym (enum-told· .given .1) ∙ room-for-two· .ensures) _ _ _ (store-byte· .ensures .0) _ (store-byte2· .result) (store-byte2· .last .1 .0) (store-byte2· .last .0) (longer· .given .1) (store-byte2· .ensures .0)
 
 pub store-escape-and-spec : {M : Type 1} → statement M
 store-escape-and-spec =

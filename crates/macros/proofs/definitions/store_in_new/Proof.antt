@@ -1,3 +1,7 @@
+use mathlib.Core.Path.{_≡_, refl, sym, ap, _∙_}
+use Prim.Native.Nat.{ℕ}
+use Rattle.rules.specs.Store.{storeInNew}
+use Rattle.macros.proofs.StoringLaws.{new-none, new-stored}
 use borrow.Author.Needs.{needs}
 use Rattle.macros.proofs.definitions.store_in_new.Statement.{statement}
 use Rattle.macros.proofs.definitions.store_in_new.Tie as tie
@@ -18,7 +22,9 @@ same-length c = search needs
 
 -- src/definitions.rt:78:9
 returns : tie.Need-returns
-returns c = ?
+returns c =
+    let next-of· = c .before .next-of in
+    (sym (new-none _ _ _ (sym (next-of· .ensures) ∙ c .if1 .taken)), (refl, refl))
 
 -- src/definitions.rt:80:5
 take-cell-requires : tie.Need-take-cell-requires
@@ -38,7 +44,13 @@ same-length-2 c = search needs
 
 -- src/definitions.rt:71:1
 returns-2 : tie.Need-returns-2
-returns-2 c = ?
+returns-2 c =
+    let next-of· = c .before .before .before .before .before .before .before .before .before .before .before .before .before .before .next-of in
+    let if1· = c .before .before .before .before .before .before .before .before .before .before .before .before .before .if1 in
+    let take-cell· = c .before .before .before .before .before .before .before .before .before .before .before .take-cell in
+    let link-cell· = c .before .before .before .before .before .before .link-cell in
+    let set-body-byte· = c .before .before .set-body-byte in
+    (rw (← next-of· .ensures) (new-stored _ _ _ _ _ _ _ _ _ _ (if1· .left) (take-cell· .ensures) (link-cell· .ensures) (set-body-byte· .ensures)), tt)
 
 pub store-in-new-spec : {M : Type 1} → statement M
 store-in-new-spec =

@@ -1,3 +1,4 @@
+use Rattle.macros.proofs.StoringLaws.{taken}
 use borrow.Author.Needs.{needs}
 use Rattle.macros.proofs.definitions.take_cell.Statement.{statement}
 use Rattle.macros.proofs.definitions.take_cell.Tie as tie
@@ -29,7 +30,12 @@ same-length c = search needs
 
 -- src/definitions.rt:43:1
 returns : tie.Need-returns
-returns c = ?
+returns c =
+    let next-of· = c .before .before .before .before .before .before .before .before .before .before .before .before .next-of in
+    let set-next· = c .before .before .before .before .before .before .before .before .before .before .set-next in
+    let set-next2· = c .before .before .before .before .before .before .set-next2 in
+    let set-count· = c .before .before .set-count in
+    taken _ _ _ _ _ _ (next-of· .ensures) (set-next· .ensures) (set-next2· .ensures) (set-count· .ensures)
 
 pub take-cell-spec : {M : Type 1} → statement M
 take-cell-spec =
