@@ -1,17 +1,16 @@
--- Laws of chains: the walk to the last cell, a cell at a time, and freeing, from what the calls hand back.
+-- Laws of chains: the walk to the last cell, and freeing from what the calls hand back.
 -- Assumes nothing.
-use mathlib.Core.Path.{_≡_, refl, sym, ap, _∙_}
-use mathlib.Core.Bool.{Bool, true, false}
+use mathlib.Core.Path.{_≡_, refl}
 use mathlib.Core.List.{List}
 use Prim.Native.Nat.{ℕ, zero, suc, _-_, _<_, _≤_}
 use native.Mathlib.Nat.{not-suc-le-zero}
 use native.Mathlib.Numerals.{sub-one}
 use borrow.Author.Tests.{eq-eqb, ne-eqb}
-use Rattle.rules.specs.declared.Chain.{Chain}
 use Rattle.rules.specs.declared.Chain.the-variants.{Ends, TooLong}
 use Rattle.rules.specs.declared.Refusal.the-variants.{OutOfRange}
-use Rattle.rules.specs.Store.{nextOf, setNext, lastCell, Freeing, NotFreed, Freed, freeTo, freeBody}
+use Rattle.rules.specs.Store.{nextOf, setNext, lastCell, NotFreed, Freed, freeTo, freeBody}
 
+-- The walk: no cell more to look at, the end of the chain, a cell further
 pub last-none : (k : ℕ) (st : List ℕ) (c : ℕ) → k ≤ 0 → lastCell k st c ≡ TooLong
 unfolding lastCell
 last-none zero st c h = refl
@@ -22,11 +21,12 @@ unfolding lastCell
 last-here zero st c h e = absurd (not-suc-le-zero h)
 last-here (suc k) st c h e = simp (eq-eqb (nextOf st c) 0 e)
 
-pub last-on : (k : ℕ) (st : List ℕ) (c : ℕ) → 0 < k → (nextOf st c ≡ 0 → ⊥) → lastCell k st c ≡ lastCell (k - 1) st (nextOf st c)
+pub last-on : (k : ℕ) (st : List ℕ) (c next : ℕ) → 0 < k → next ≡ nextOf st c → (next ≡ 0 → ⊥) → lastCell k st c ≡ lastCell (k - 1) st next
 unfolding lastCell
-last-on zero st c h e = absurd (not-suc-le-zero h)
-last-on (suc k) st c h e = simp (ne-eqb (nextOf st c) 0 e, sub-one)
+last-on zero st c next h e nz = absurd (not-suc-le-zero h)
+last-on (suc k) st c next h e nz = simp (← e, ne-eqb next 0 nz, sub-one)
 
+-- Freeing an empty body, a chain that is too long, a chain that ends
 pub free-none : (st : List ℕ) (first : ℕ) → first ≡ 0 → Freed st ≡ freeBody first st
 unfolding freeBody
 free-none st first e = simp (eq-eqb first 0 e)

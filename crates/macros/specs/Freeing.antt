@@ -1,4 +1,4 @@
--- The answer of a freeing, with the store that it leaves, as the rules have it
+-- An answer to freeing a body, with the store left, as the rule has it
 use Prim.Native.Nat.{ℕ}
 use mathlib.Core.List.{List}
 use mathlib.Core.Path.{_≡_}
@@ -6,11 +6,11 @@ use Rattle.rules.specs.Store.{Freeing, NotFreed, Freed}
 use Rattle.macros.specs.declared.chains.FreeAnswer.{FreeAnswer}
 use Rattle.macros.specs.declared.chains.FreeAnswer.the-variants.{Done, Refused}
 
-abbrev pub freeing : FreeAnswer → List ℕ → Freeing
-freeing Done st = Freed st
-freeing (Refused r) st = NotFreed r
+abbrev pub freeingOf : FreeAnswer → List ℕ → Freeing
+freeingOf Done st = Freed st
+freeingOf (Refused r) st = NotFreed r
 
--- "A refused step changes nothing": the store left is the store lent
-abbrev pub FreeingKeeps : FreeAnswer → List ℕ → List ℕ → Type 0
-FreeingKeeps Done lent left = Unit
-FreeingKeeps (Refused r) lent left = left ≡ lent
+-- "A refused step changes nothing": what is left is what was lent
+abbrev pub KeptIfRefused : FreeAnswer → List ℕ → List ℕ → Type 0
+KeptIfRefused Done lent left = Unit
+KeptIfRefused (Refused r) lent left = left ≡ lent

@@ -10,5 +10,5 @@ abbrev pub Sized : List ℕ → Type 0
 Sized st = length st ≡ storeSize
 
 -- "96 names (2/0 to 7/15)"
-abbrev pub Named : ℕ → Type 0
-Named name = (32 ≤ name) × (name ≤ 127)
+abbrev pub IsName : ℕ → Type 0
+IsName name = (32 ≤ name) × (name ≤ 127)

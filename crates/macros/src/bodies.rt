@@ -10,50 +10,45 @@ ghost use Prim.Native.Nat.{_<_};
 ghost use Rattle.rules.specs.Bodies.{hasLeft, readCell, readBody};
 ghost use Rattle.macros.specs.Lent.{Sized};
 
-pub fn has_left(store: &[u8], x: Cursor) -> bool
+pub fn has_left(store: &[u8], cursor: Cursor) -> bool
     requires { ⌜ Sized (now store) ⌝ }
-    ensures { λ r. ⌜ r ≡ hasLeft (now (store .entry)) x ⌝ }
+    ensures { λ r. ⌜ r ≡ hasLeft (now (store .entry)) cursor ⌝ }
 {
-    if x.cell == 0 {
-        return false;
-    }
-    if x.place < count_of(store, x.cell) {
-        return true;
-    }
-    next_of(store, x.cell) != 0
+    cursor.cell != 0
+        && (cursor.place < count_of(store, cursor.cell) || next_of(store, cursor.cell) != 0)
 }
 
 // The byte at the cursor, which is in its cell, and the place after it.
-fn read_cell(store: &[u8], x: Cursor) -> Read
-    requires { ⌜ (Sized (now store)) × (x .place < 30) ⌝ }
-    ensures { λ r. ⌜ r ≡ readCell (now (store .entry)) x ⌝ }
+fn read_cell(store: &[u8], cursor: Cursor) -> Read
+    requires { ⌜ (Sized (now store)) × (cursor .place < 30) ⌝ }
+    ensures { λ r. ⌜ r ≡ readCell (now (store .entry)) cursor ⌝ }
 {
-    let byte = body_byte(store, x.cell, x.place);
+    let byte = body_byte(store, cursor.cell, cursor.place);
     Read::Byte(
         byte,
         Cursor {
-            cell: x.cell,
-            place: x.place + 1,
+            cell: cursor.cell,
+            place: cursor.place + 1,
         },
     )
 }
 
 // The next byte of a body that has bytes left.
-pub fn read_body(store: &[u8], x: Cursor) -> Read
+pub fn read_body(store: &[u8], cursor: Cursor) -> Read
     requires { ⌜ Sized (now store) ⌝ }
-    ensures { λ r. ⌜ r ≡ readBody (now (store .entry)) x ⌝ }
+    ensures { λ r. ⌜ r ≡ readBody (now (store .entry)) cursor ⌝ }
 {
-    let count = count_of(store, x.cell);
+    let count = count_of(store, cursor.cell);
     if !good_count(count) {
         return Read::BadCell;
     }
-    if count < x.place {
+    if count < cursor.place {
         return Read::BadCell;
     }
-    if x.place < count {
-        return read_cell(store, x);
+    if cursor.place < count {
+        return read_cell(store, cursor);
     }
-    let next = next_of(store, x.cell);
+    let next = next_of(store, cursor.cell);
     if !good_count(count_of(store, next)) {
         return Read::BadCell;
     }

@@ -6,7 +6,7 @@ use rules::Refusal;
 ghost use mathlib.Core.Path.{_≡_};
 ghost use Rattle.rules.specs.Store.{lastCell, freeBody};
 ghost use Rattle.macros.specs.Lent.{Sized};
-ghost use Rattle.macros.specs.Freeing.{freeing, FreeingKeeps};
+ghost use Rattle.macros.specs.Freeing.{freeingOf, KeptIfRefused};
 
 pub enum FreeAnswer {
     Done,
@@ -33,8 +33,8 @@ pub fn last_cell(store: &[u8], first: u8) -> Chain
 // Puts the chain from `first` on at the front of the free chain.
 pub fn free_body(store: &mut [u8], first: u8) -> FreeAnswer
     requires { ⌜ Sized (now store) ⌝ }
-    ensures freed { λ r. ⌜ freeing r (now (store .exit)) ≡ freeBody first (now (store .entry)) ⌝ }
-    ensures refused { λ r. ⌜ FreeingKeeps r (now (store .entry)) (now (store .exit)) ⌝ }
+    ensures freed { λ r. ⌜ freeingOf r (now (store .exit)) ≡ freeBody first (now (store .entry)) ⌝ }
+    ensures refused { λ r. ⌜ KeptIfRefused r (now (store .entry)) (now (store .exit)) ⌝ }
 {
     if first == 0 {
         return FreeAnswer::Done;

@@ -1,4 +1,5 @@
 // The store as a page finds it.
+use crate::cells::CELL_SIZE;
 ghost use mathlib.Core.Path.{_≡_};
 ghost use Prim.Native.Nat.{_<_};
 ghost use lib.ListN.{getD};
@@ -6,15 +7,16 @@ ghost use Rattle.rules.specs.Store.{freshStore};
 ghost use Rattle.macros.specs.Lent.{Sized};
 
 // Byte 0 of each cell but the last is the number of the cell after it; every other byte is 0.
-fn fresh_byte(at: usize) -> u8
-    requires { ⌜ at < 8192 ⌝ }
-    ensures { λ r. ⌜ r ≡ getD freshStore at 0 ⌝ }
+fn fresh_byte(i: usize) -> u8
+    requires { ⌜ i < 8192 ⌝ }
+    ensures { λ r. ⌜ r ≡ getD freshStore i 0 ⌝ }
 {
-    if at % 32 != 0 {
+    if i % CELL_SIZE != 0 {
         return 0;
     }
-    if at < 8160 {
-        return (at / 32 + 1) as u8;
+    let cell = i / CELL_SIZE;
+    if cell < 255 {
+        return (cell + 1) as u8;
     }
     0
 }
@@ -24,9 +26,9 @@ pub fn initialise(store: &mut [u8])
     requires { ⌜ Sized (now store) ⌝ }
     ensures { λ _. ⌜ now (store .exit) ≡ freshStore ⌝ }
 {
-    let mut at = 0;
-    while at < store.len() {
-        store[at] = fresh_byte(at);
-        at += 1;
+    let mut i = 0;
+    while i < store.len() {
+        store[i] = fresh_byte(i);
+        i += 1;
     }
 }

@@ -2,26 +2,17 @@ use mathlib.Core.Path.{_∙_, sym}
 use native.Mathlib.Omega.{arith}
 use borrow.Author.Tests.{lt-ltb, le-ltb, le-leb, lt-leb, not-true, not-false}
 use Rattle.rules.specs.Bodies.{readBody}
-use Rattle.macros.proofs.CellLaws.{count-high}
+use Rattle.macros.proofs.CellLaws.{good-most}
 use borrow.Author.Needs.{needs}
 use Rattle.macros.proofs.bodies.read_body.Statement.{statement}
 use Rattle.macros.proofs.bodies.read_body.Tie as tie
-use Rattle.macros.proofs.bodies.read_body.Reads as reads
-use Rattle.macros.proofs.bodies.read_body.Lts as lts
-use Rattle.macros.proofs.bodies.read_cell.Reads as read-cell-reads
-use Rattle.macros.proofs.cells.count_of.Reads as count-of-reads
-use Rattle.macros.proofs.cells.good_count.Reads as good-count-reads
-use Rattle.macros.proofs.cells.next_of.Reads as next-of-reads
 
--- src/bodies.rt:46:9
 count-of-requires : tie.Need-count-of-requires
 count-of-requires c κs = search needs
 
--- src/bodies.rt:47:9
 good-count-requires : tie.Need-good-count-requires
 good-count-requires c κs = search needs
 
--- src/bodies.rt:48:9
 returns : tie.Need-returns
 unfolding readBody
 returns c =
@@ -29,7 +20,6 @@ returns c =
     let good-count· = c .before .good-count in
     simp (← count-of· .ensures, ← good-count· .ensures, not-true (good-count· .result) (c .if1 .taken))
 
--- src/bodies.rt:51:9
 returns-2 : tie.Need-returns-2
 unfolding readBody
 returns-2 c =
@@ -38,14 +28,12 @@ returns-2 c =
     let if1· = c .before .before .if1 in
     simp (← count-of· .ensures, ← good-count· .ensures, not-false (good-count· .result) (if1· .left), lt-leb _ _ (c .if2 .taken))
 
--- src/bodies.rt:54:9
 read-cell-requires : tie.Need-read-cell-requires
 read-cell-requires c κs =
     let good-count· = c .before .before .before .before .before .good-count in
     let if1· = c .before .before .before .before .if1 in
-    omega (arith, count-high _ (sym (good-count· .ensures) ∙ not-false (good-count· .result) (if1· .left)))
+    omega (arith, good-most _ (sym (good-count· .ensures) ∙ not-false (good-count· .result) (if1· .left)))
 
--- src/bodies.rt:54:9
 returns-3 : tie.Need-returns-3
 unfolding readBody
 returns-3 c =
@@ -56,19 +44,15 @@ returns-3 c =
     let if3· = c .before .if3 in
     simp (← count-of· .ensures, ← good-count· .ensures, not-false (good-count· .result) (if1· .left), le-leb _ _ (if2· .left), lt-ltb _ _ (if3· .taken)) (c .read-cell .ensures)
 
--- src/bodies.rt:56:9
 next-of-requires : tie.Need-next-of-requires
 next-of-requires c κs = search needs
 
--- src/bodies.rt:57:20
 count-of-requires-2 : tie.Need-count-of-requires-2
 count-of-requires-2 c κs = search needs
 
--- src/bodies.rt:57:9
 good-count-requires-2 : tie.Need-good-count-requires-2
 good-count-requires-2 c κs = search needs
 
--- src/bodies.rt:58:9
 returns-4 : tie.Need-returns-4
 unfolding readBody
 returns-4 c =
@@ -82,11 +66,9 @@ returns-4 c =
     let good-count2· = c .before .good-count2 in
     simp (← count-of· .ensures, ← good-count· .ensures, not-false (good-count· .result) (if1· .left), le-leb _ _ (if2· .left), le-ltb _ _ (if3· .left), ← next-of· .ensures, ← count-of2· .ensures, ← good-count2· .ensures, not-true (good-count2· .result) (c .if4 .taken))
 
--- src/bodies.rt:60:5
 read-cell-requires-2 : tie.Need-read-cell-requires-2
 read-cell-requires-2 c κs = search needs
 
--- src/bodies.rt:42:1
 returns-5 : tie.Need-returns-5
 unfolding readBody
 returns-5 c =

@@ -3,19 +3,13 @@ use Rattle.rules.specs.Bodies.{readCell}
 use borrow.Author.Needs.{needs}
 use Rattle.macros.proofs.bodies.read_cell.Statement.{statement}
 use Rattle.macros.proofs.bodies.read_cell.Tie as tie
-use Rattle.macros.proofs.bodies.read_cell.Reads as reads
-use Rattle.macros.proofs.bodies.read_cell.Lts as lts
-use Rattle.macros.proofs.cells.body_byte.Reads as body-byte-reads
 
--- src/bodies.rt:31:9
 body-byte-requires : tie.Need-body-byte-requires
 body-byte-requires c κs = search needs
 
--- src/bodies.rt:36:20
 add-t4 : tie.Need-add-t4
 add-t4 c = search needs
 
--- src/bodies.rt:27:1
 returns : tie.Need-returns
 unfolding readCell
 returns c =

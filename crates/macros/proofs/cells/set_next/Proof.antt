@@ -2,22 +2,16 @@ use Rattle.rules.specs.Store.{setNext}
 use borrow.Author.Needs.{needs}
 use Rattle.macros.proofs.cells.set_next.Statement.{statement}
 use Rattle.macros.proofs.cells.set_next.Tie as tie
-use Rattle.macros.proofs.cells.set_next.Reads as reads
-use Rattle.macros.proofs.cells.set_next.Lts as lts
 
--- src/cells.rt:19:11
 mul-store : tie.Need-mul-store
 mul-store c = search needs
 
--- src/cells.rt:19:5
 slice-write-store : tie.Need-slice-write-store
 slice-write-store c = search needs
 
--- src/cells.rt:15:1
 same-length : tie.Need-same-length
 same-length c = search needs
 
--- src/cells.rt:15:1
 returns : tie.Need-returns
 unfolding setNext
 returns c = search needs

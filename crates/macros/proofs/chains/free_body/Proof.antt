@@ -3,56 +3,40 @@ use Rattle.macros.proofs.ChainLaws.{free-none, free-long, free-ends}
 use borrow.Author.Needs.{needs}
 use Rattle.macros.proofs.chains.free_body.Statement.{statement}
 use Rattle.macros.proofs.chains.free_body.Tie as tie
-use Rattle.macros.proofs.chains.free_body.Reads as reads
-use Rattle.macros.proofs.chains.free_body.Lts as lts
-use Rattle.macros.proofs.cells.next_of.Reads as next-of-reads
-use Rattle.macros.proofs.cells.set_next.Reads as set-next-reads
-use Rattle.macros.proofs.chains.last_cell.Reads as last-cell-reads
 
--- src/chains.rt:40:9
 returns : tie.Need-returns
 returns c = (free-none _ _ (c .if1 .taken), tt)
 
--- src/chains.rt:42:11
 last-cell-requires : tie.Need-last-cell-requires
 last-cell-requires c κs = search needs
 
--- src/chains.rt:43:47
 enum-told : tie.Need-enum-told
 enum-told c = search needs
 
--- src/chains.rt:44:21
 enum-known-last : tie.Need-enum-known-last
 enum-known-last c = search needs
 
--- src/chains.rt:45:17
 next-of-requires : tie.Need-next-of-requires
 next-of-requires c κs = search needs
 
--- src/chains.rt:46:13
 set-next-requires : tie.Need-set-next-requires
 set-next-requires c κs = search needs
 
--- src/chains.rt:47:13
 set-next-requires-2 : tie.Need-set-next-requires-2
 set-next-requires-2 c κs = search needs
 
--- src/chains.rt:34:1
 same-length : tie.Need-same-length
 same-length c = search needs
 
--- src/chains.rt:34:1
 returns-2 : tie.Need-returns-2
 returns-2 c =
     let if1· = c .before .before .before .before .if1 in
     let last-cell· = c .before .before .last-cell in
     (free-long _ _ (if1· .left) (sym (c .enum-told .given .1) ∙ last-cell· .ensures), refl)
 
--- src/chains.rt:34:1
 same-length-2 : tie.Need-same-length-2
 same-length-2 c = search needs
 
--- src/chains.rt:34:1
 returns-3 : tie.Need-returns-3
 returns-3 c =
     let if1· = c .before .before .before .before .before .before .before .before .before .before .before .before .before .before .before .if1 in

@@ -2,30 +2,21 @@ use Rattle.macros.proofs.StoringLaws.{link-first, link-more}
 use borrow.Author.Needs.{needs}
 use Rattle.macros.proofs.definitions.link_cell.Statement.{statement}
 use Rattle.macros.proofs.definitions.link_cell.Tie as tie
-use Rattle.macros.proofs.definitions.link_cell.Reads as reads
-use Rattle.macros.proofs.definitions.link_cell.Lts as lts
-use Rattle.macros.proofs.cells.set_next.Reads as set-next-reads
-use Rattle.macros.proofs.definitions.set_first.Reads as set-first-reads
 
--- src/definitions.rt:63:9
 set-first-requires : tie.Need-set-first-requires
 set-first-requires c κs = search needs
 
--- src/definitions.rt:64:9
 returns : tie.Need-returns
 returns c =
     let if1· = c .before .before .if1 in
     link-first _ _ _ _ _ (if1· .taken) (c .set-first .ensures)
 
--- src/definitions.rt:66:5
 set-next-requires : tie.Need-set-next-requires
 set-next-requires c κs = search needs
 
--- src/definitions.rt:54:1
 same-length : tie.Need-same-length
 same-length c = search needs
 
--- src/definitions.rt:54:1
 returns-2 : tie.Need-returns-2
 returns-2 c =
     let if1· = c .before .before .before .before .if1 in

@@ -1,48 +1,32 @@
-use mathlib.Core.Path.{_≡_, refl, sym, ap, _∙_}
-use Prim.Native.Nat.{ℕ}
-use Rattle.rules.specs.Store.{storeInNew}
+use mathlib.Core.Path.{refl, sym, _∙_}
 use Rattle.macros.proofs.StoringLaws.{new-none, new-stored}
 use borrow.Author.Needs.{needs}
 use Rattle.macros.proofs.definitions.store_in_new.Statement.{statement}
 use Rattle.macros.proofs.definitions.store_in_new.Tie as tie
-use Rattle.macros.proofs.definitions.store_in_new.Reads as reads
-use Rattle.macros.proofs.definitions.store_in_new.Lts as lts
-use Rattle.macros.proofs.cells.next_of.Reads as next-of-reads
-use Rattle.macros.proofs.cells.set_body_byte.Reads as set-body-byte-reads
-use Rattle.macros.proofs.definitions.link_cell.Reads as link-cell-reads
-use Rattle.macros.proofs.definitions.take_cell.Reads as take-cell-reads
 
--- src/definitions.rt:76:9
 next-of-requires : tie.Need-next-of-requires
 next-of-requires c κs = search needs
 
--- src/definitions.rt:78:9
 same-length : tie.Need-same-length
 same-length c = search needs
 
--- src/definitions.rt:78:9
 returns : tie.Need-returns
 returns c =
     let next-of· = c .before .next-of in
     (sym (new-none _ _ _ (sym (next-of· .ensures) ∙ c .if1 .taken)), (refl, refl))
 
--- src/definitions.rt:80:5
 take-cell-requires : tie.Need-take-cell-requires
 take-cell-requires c κs = search needs
 
--- src/definitions.rt:81:9
 link-cell-requires : tie.Need-link-cell-requires
 link-cell-requires c κs = search needs
 
--- src/definitions.rt:82:5
 set-body-byte-requires : tie.Need-set-body-byte-requires
 set-body-byte-requires c κs = search needs
 
--- src/definitions.rt:71:1
 same-length-2 : tie.Need-same-length-2
 same-length-2 c = search needs
 
--- src/definitions.rt:71:1
 returns-2 : tie.Need-returns-2
 returns-2 c =
     let next-of· = c .before .before .before .before .before .before .before .before .before .before .before .before .before .before .next-of in
@@ -50,7 +34,7 @@ returns-2 c =
     let take-cell· = c .before .before .before .before .before .before .before .before .before .before .before .take-cell in
     let link-cell· = c .before .before .before .before .before .before .link-cell in
     let set-body-byte· = c .before .before .set-body-byte in
-    (rw (← next-of· .ensures) (new-stored _ _ _ _ _ _ _ _ _ _ (if1· .left) (take-cell· .ensures) (link-cell· .ensures) (set-body-byte· .ensures)), tt)
+    (rw (← next-of· .ensures) (new-stored _ _ _ _ _ _ _ _ _ _ (if1· .left) (take-cell· .ensures) (link-cell· .ensures) (set-body-byte· .ensures)), (tt, tt))
 
 pub store-in-new-spec : {M : Type 1} → statement M
 store-in-new-spec =

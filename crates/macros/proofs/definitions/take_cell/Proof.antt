@@ -2,33 +2,22 @@ use Rattle.macros.proofs.StoringLaws.{taken}
 use borrow.Author.Needs.{needs}
 use Rattle.macros.proofs.definitions.take_cell.Statement.{statement}
 use Rattle.macros.proofs.definitions.take_cell.Tie as tie
-use Rattle.macros.proofs.definitions.take_cell.Reads as reads
-use Rattle.macros.proofs.definitions.take_cell.Lts as lts
-use Rattle.macros.proofs.cells.next_of.Reads as next-of-reads
-use Rattle.macros.proofs.cells.set_count.Reads as set-count-reads
-use Rattle.macros.proofs.cells.set_next.Reads as set-next-reads
 
--- src/definitions.rt:47:9
 next-of-requires : tie.Need-next-of-requires
 next-of-requires c κs = search needs
 
--- src/definitions.rt:48:5
 set-next-requires : tie.Need-set-next-requires
 set-next-requires c κs = search needs
 
--- src/definitions.rt:49:5
 set-next-requires-2 : tie.Need-set-next-requires-2
 set-next-requires-2 c κs = search needs
 
--- src/definitions.rt:50:5
 set-count-requires : tie.Need-set-count-requires
 set-count-requires c κs = search needs
 
--- src/definitions.rt:43:1
 same-length : tie.Need-same-length
 same-length c = search needs
 
--- src/definitions.rt:43:1
 returns : tie.Need-returns
 returns c =
     let next-of· = c .before .before .before .before .before .before .before .before .before .before .before .before .next-of in

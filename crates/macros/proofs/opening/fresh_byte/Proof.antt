@@ -2,31 +2,24 @@ use Rattle.macros.proofs.CellLaws.{fresh-next, fresh-end, fresh-inner}
 use borrow.Author.Needs.{needs}
 use Rattle.macros.proofs.opening.fresh_byte.Statement.{statement}
 use Rattle.macros.proofs.opening.fresh_byte.Tie as tie
-use Rattle.macros.proofs.opening.fresh_byte.Reads as reads
-use Rattle.macros.proofs.opening.fresh_byte.Lts as lts
 
--- src/opening.rt:14:9
 returns : tie.Need-returns
 returns c =
     let pre· = c .before .pre in
     fresh-inner _ (c .if1 .taken) (pre·)
 
--- src/opening.rt:17:17
 add-result : tie.Need-add-result
 add-result c = search needs
 
--- src/opening.rt:17:16
 cast-result : tie.Need-cast-result
 cast-result c = search needs
 
--- src/opening.rt:17:9
 returns-2 : tie.Need-returns-2
 returns-2 c =
     let if1· = c .before .if1 in
     let if2· = c .if2 in
     fresh-next _ (if1· .left) (if2· .taken)
 
--- src/opening.rt:9:1
 returns-3 : tie.Need-returns-3
 returns-3 c =
     let if1· = c .before .if1 in

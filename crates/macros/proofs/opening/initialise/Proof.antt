@@ -8,58 +8,46 @@ use Rattle.macros.proofs.ListLaws.{over-more, over-all}
 use Rattle.macros.proofs.CellLaws.{length-fresh}
 use Rattle.macros.proofs.opening.initialise.Statement.{statement}
 use Rattle.macros.proofs.opening.initialise.Tie as tie
-use Rattle.macros.proofs.opening.initialise.Reads as reads
-use Rattle.macros.proofs.opening.initialise.Lts as lts
-use Rattle.macros.proofs.opening.fresh_byte.Reads as fresh-byte-reads
 
 abbrev Inv-loop : tie.InvT-loop
-Inv-loop store₀ at₀ store at = (store ≡ take at freshStore ++ drop at store₀) × (at ≤ 8192) × (length store ≡ 8192) × (length store₀ ≡ 8192)
+Inv-loop store₀ i₀ store i = (store ≡ take i freshStore ++ drop i store₀) × (i ≤ 8192) × (length store ≡ 8192) × (length store₀ ≡ 8192)
 
 abbrev μ-loop : tie.MeasureT-loop
-μ-loop store₀ at₀ store at = 8192 - at
+μ-loop store₀ i₀ store i = 8192 - i
 
--- src/opening.rt:28:5
 loop-holds : tie.Need-loop-holds Inv-loop μ-loop
 loop-holds c = (refl, omega arith, omega arith, omega arith)
 
--- src/opening.rt:29:21
 fresh-byte-requires : tie.Need-fresh-byte-requires Inv-loop μ-loop
 fresh-byte-requires c κs = omega arith
 
--- src/opening.rt:29:9
 slice-write-store : tie.Need-slice-write-store Inv-loop μ-loop
 slice-write-store c = omega arith
 
--- src/opening.rt:30:9
-add-at : tie.Need-add-at Inv-loop μ-loop
-add-at c = omega arith
+add-i : tie.Need-add-i Inv-loop μ-loop
+add-i c = omega arith
 
--- src/opening.rt:28:5
 loop-less : tie.Need-loop-less Inv-loop μ-loop
 loop-less c = omega arith
 
--- src/opening.rt:28:5
 loop-again : tie.Need-loop-again Inv-loop μ-loop
 loop-again c =
     let loop· = c .before .before .loop in
-    let fresh-byte· = c .fresh-byte in
-    (
-      ap (λ (s : List ℕ). set s (loop· .at) (fresh-byte· .result)) (loop· .inv .0) ∙ over-more _ freshStore (loop· .at) _ (omega (arith, length-fresh)) (omega (arith, length-fresh)) (fresh-byte· .ensures),
+    let fresh-byte· = c .fresh-byte in (
+      ap (λ (s : List ℕ). set s (loop· .i) (fresh-byte· .result)) (loop· .inv .0) ∙ over-more _ freshStore (loop· .i) _ (omega (arith, length-fresh)) (omega (arith, length-fresh)) (fresh-byte· .ensures),
       omega arith,
       simp length-set (omega arith),
       omega arith,
     )
 
--- src/opening.rt:23:1
 same-length : tie.Need-same-length Inv-loop μ-loop
 same-length c = omega arith
 
--- src/opening.rt:23:1
 returns : tie.Need-returns Inv-loop μ-loop
 returns c =
     let loop· = c .before .loop in
-    let e : loop· .at ≡ 8192 = omega arith in
-    loop· .inv .0 ∙ over-all _ freshStore (loop· .at) (omega arith) (omega (arith, length-fresh))
+    let e : loop· .i ≡ 8192 = omega arith in
+    loop· .inv .0 ∙ over-all _ freshStore (loop· .i) (omega arith) (omega (arith, length-fresh))
 
 pub initialise-spec : {M : Type 1} → statement M
 initialise-spec =
@@ -70,7 +58,7 @@ initialise-spec =
     loop-holds
     fresh-byte-requires
     slice-write-store
-    add-at
+    add-i
     loop-less
     loop-again
     same-length

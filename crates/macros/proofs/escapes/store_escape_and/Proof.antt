@@ -1,40 +1,30 @@
-use mathlib.Core.Path.{refl, sym, _∙_, ap}
+use mathlib.Core.Path.{refl, sym, _∙_}
 use native.Mathlib.Omega.{arith}
 use Rattle.rules.specs.Store.{nextOf}
-use Rattle.macros.proofs.TwoBytes.{same-name, two-refused, first-stored, both-stored}
+use Rattle.macros.proofs.EscapeLaws.{two-refused, first-stored, both-stored}
+use Rattle.macros.proofs.StoringLaws.{same-name}
 use borrow.Author.Needs.{needs}
-use Rattle.macros.proofs.definitions.store_escape_and.Statement.{statement}
-use Rattle.macros.proofs.definitions.store_escape_and.Tie as tie
-use Rattle.macros.proofs.definitions.store_escape_and.Reads as reads
-use Rattle.macros.proofs.definitions.store_escape_and.Lts as lts
-use Rattle.macros.proofs.definitions.room_for_two.Reads as room-for-two-reads
-use Rattle.macros.proofs.definitions.store_byte.Reads as store-byte-reads
+use Rattle.macros.proofs.escapes.store_escape_and.Statement.{statement}
+use Rattle.macros.proofs.escapes.store_escape_and.Tie as tie
 
--- src/definitions.rt:142:11
 room-for-two-requires : tie.Need-room-for-two-requires
 room-for-two-requires c κs = search needs
 
--- src/definitions.rt:143:23
 enum-known-refusal : tie.Need-enum-known-refusal
 enum-known-refusal c = search needs
 
--- src/definitions.rt:144:42
 enum-told : tie.Need-enum-told
 enum-told c = search needs
 
--- src/definitions.rt:144:31
 store-byte-requires : tie.Need-store-byte-requires
 store-byte-requires c κs = search needs
 
--- src/definitions.rt:145:34
 enum-known-refusal-2 : tie.Need-enum-known-refusal-2
 enum-known-refusal-2 c = search needs
 
--- src/definitions.rt:146:31
 enum-known-longer : tie.Need-enum-known-longer
 enum-known-longer c = search needs
 
--- src/definitions.rt:146:42
 store-byte-requires-2 : tie.Need-store-byte-requires-2
 store-byte-requires-2 c κs =
     let pre· = c .before .before .before .before .before .before .before .before .before .before .before .before .before .before .before .pre in
@@ -42,11 +32,9 @@ store-byte-requires-2 c κs =
     let longer· = c .before .before .before .longer in
     (search needs, omega (arith, pre· .1, same-name _ _ _ _ _ _ (store-byte· .ensures .0) (longer· .given .1)))
 
--- src/definitions.rt:137:1
 same-length : tie.Need-same-length
 same-length c = search needs
 
--- src/definitions.rt:137:1
 returns : tie.Need-returns
 unfolding nextOf
 returns c =
@@ -56,11 +44,9 @@ returns c =
     let room-for-two· = c .before .before .before .room-for-two in
     (two-refused _ _ (pre· .0) (omega arith) (slice-known· .given 0 .fits) _ (sym (refusal· .given .1) ∙ room-for-two· .ensures), (refl, refl))
 
--- src/definitions.rt:137:1
 same-length-2 : tie.Need-same-length-2
 same-length-2 c = search needs
 
--- src/definitions.rt:137:1
 returns-2 : tie.Need-returns-2
 unfolding nextOf
 returns-2 c =
@@ -71,13 +57,11 @@ returns-2 c =
     let room-for-two· = c .before .before .before .before .before .before .before .before .before .before .room-for-two in
     let store-byte· = c .before .before .before .before .before .store-byte in
     let refusal2· = c .before .refusal2 in
-    absurd (first-stored _ (args· .b) (pre· .0) (omega arith) (slice-known· .given 0 .fits) (sym (enum-told· .given .1) ∙ room-for-two· .ensures) _ _ _ (store-byte· .ensures .0) _ (refusal2· .given .1))
+    absurd (first-stored _ (args· .byte) (pre· .0) (omega arith) (slice-known· .given 0 .fits) (sym (enum-told· .given .1) ∙ room-for-two· .ensures) _ _ _ (store-byte· .ensures .0) _ (refusal2· .given .1))
 
--- src/definitions.rt:137:1
 same-length-3 : tie.Need-same-length-3
 same-length-3 c = search needs
 
--- src/definitions.rt:137:1
 returns-3 : tie.Need-returns-3
 unfolding nextOf
 returns-3 c =

@@ -1,24 +1,18 @@
 use borrow.Author.Tests.{eq-eqb, ne-eqb}
-use Rattle.macros.specs.Storing.{freeCell}
+use Rattle.macros.specs.Room.{freeCell}
 use borrow.Author.Needs.{needs}
-use Rattle.macros.proofs.definitions.free_cell.Statement.{statement}
-use Rattle.macros.proofs.definitions.free_cell.Tie as tie
-use Rattle.macros.proofs.definitions.free_cell.Reads as reads
-use Rattle.macros.proofs.definitions.free_cell.Lts as lts
-use Rattle.macros.proofs.cells.next_of.Reads as next-of-reads
+use Rattle.macros.proofs.escapes.free_cell.Statement.{statement}
+use Rattle.macros.proofs.escapes.free_cell.Tie as tie
 
--- src/definitions.rt:112:8
 next-of-requires : tie.Need-next-of-requires
 next-of-requires c κs = search needs
 
--- src/definitions.rt:113:9
 returns : tie.Need-returns
 unfolding freeCell
 returns c =
     let next-of· = c .before .next-of in
     simp (← next-of· .ensures, eq-eqb _ _ (c .if1 .taken))
 
--- src/definitions.rt:108:1
 returns-2 : tie.Need-returns-2
 unfolding freeCell
 returns-2 c =
