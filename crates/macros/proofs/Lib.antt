@@ -1,0 +1,6 @@
+pub mod ListLaws
+pub mod ChoiceLaws
+pub mod CellLaws
+pub mod ChainLaws
+pub mod StoringLaws
+pub mod EscapeLaws

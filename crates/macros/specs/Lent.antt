@@ -1,0 +1,14 @@
+-- What the functions ask of what they are lent
+use Prim.Native.Nat.{ℕ, _≤_}
+use mathlib.Core.List.{List}
+use mathlib.Core.Path.{_≡_}
+use lib.ListN.{length}
+use Rattle.rules.specs.Store.{storeSize}
+
+-- "a store of exactly 8,192 bytes"
+abbrev pub Sized : List ℕ → Type 0
+Sized st = length st ≡ storeSize
+
+-- "96 names (2/0 to 7/15)"
+abbrev pub IsName : ℕ → Type 0
+IsName name = (32 ≤ name) × (name ≤ 127)
