@@ -16,7 +16,9 @@ use Rattle.rules.specs.Coding.{unfinished}
 use Rattle.rules.specs.Record.{bytesOfAll}
 use Rattle.rules.specs.Drawing.{Outcome, Refuse, Draw, act, isOpen}
 use Rattle.rules.specs.Step.{State, removeSpent}
-use Rattle.rules.specs.Reading.{Reading, Limit, Room, roomForStep, reading, Verdict, Passes, Fails, tests, readTo}
+use Rattle.rules.specs.declared.Verdict.{Verdict}
+use Rattle.rules.specs.declared.Verdict.the-variants.{Passes, Fails}
+use Rattle.rules.specs.Reading.{Reading, Limit, Room, roomForStep, reading, tests, readTo}
 use Rattle.rules.specs.Calls.{Handed, handed, feed, ended, endChecks, ending, end}
 use Rattle.rules.proofs.RecordCount.{AtMost, records-length, act-most, closed-none}
 use Rattle.rules.proofs.Steps.{Valid, tests-valid, Later, remove-later, step-later}

@@ -13,7 +13,9 @@ use Rattle.rules.specs.declared.Answer.{Answer}
 use Rattle.rules.specs.declared.Answer.the-variants.{Done, Full, Refused}
 use Rattle.rules.specs.Record.{bytesOfAll}
 use Rattle.rules.specs.Step.{State, removeSpent, Source, FromBody, FromPiece, Sought, Found, seek, Goes, interpret}
-use Rattle.rules.specs.Reading.{Reading, Limit, Room, Always, Steps, stops, lessen, rests, consumedBy, after, reading, Verdict, Passes, Fails, tests, readTo, undivided}
+use Rattle.rules.specs.declared.Verdict.{Verdict}
+use Rattle.rules.specs.declared.Verdict.the-variants.{Passes, Fails}
+use Rattle.rules.specs.Reading.{Reading, Limit, Room, Always, Steps, stops, lessen, rests, consumedBy, after, reading, tests, readTo, undivided}
 use Rattle.rules.specs.Calls.{opened, Handed, handed, feed, unread, Lent, returned, join, feeds, lentBytes}
 use Rattle.rules.proofs.Steps.{Some, seek-extend, seek-rest, Valid, tests-valid, valid-tests, stopped-tests, Later, later-tests, later-then, remove-later, step-later}
 use Rattle.rules.proofs.Readings.{Halt, Reads, done, full, halt, step, reads, reads-done, reads-full, reads-halt, reads-step, halt-extend, reading-removed, Waits, full-waits, full-done, refused-full, reads-failed, reads-passed}

@@ -12,7 +12,9 @@ use Rattle.rules.specs.Bodies.{bytesLeft}
 use Rattle.rules.specs.Coding.{unfinished}
 use Rattle.rules.specs.Drawing.{isOpen}
 use Rattle.rules.specs.Step.{State}
-use Rattle.rules.specs.Reading.{Reading, Steps, roomForStep, Verdict, Passes, Fails, tests, readTo, undivided}
+use Rattle.rules.specs.declared.Verdict.{Verdict}
+use Rattle.rules.specs.declared.Verdict.the-variants.{Passes, Fails}
+use Rattle.rules.specs.Reading.{Reading, Steps, roomForStep, tests, readTo, undivided}
 use Rattle.rules.specs.Calls.{opened, Opening, openAs, openPage, ending, endChecks, end, Lent, feeds, lentBytes}
 use Rattle.rules.specs.Expansion.{expansion, readPage, endPage, Accepted, allRecords, SameState}
 use Rattle.rules.proofs.Readings.{Waits, full-done, refused-done}

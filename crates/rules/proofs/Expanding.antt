@@ -22,7 +22,9 @@ use Rattle.rules.specs.Record.{bytesOfAll}
 use Rattle.rules.specs.Drawing.{Outcome, Refuse as Refuse·drawing, Draw, act, isOpen}
 use Rattle.rules.specs.Step.{State, stateOf, removeSpent, FromPiece, Found, NothingLeft, seek, seekAt, Goes, interpret, opensInside, onReaction, onOutcome}
 use Rattle.rules.specs.Ranges.{placesFit, bodiesFit}
-use Rattle.rules.specs.Reading.{Reading, Always, roomForStep, rests, halts, after, reading, Verdict, Passes, Fails, tests, readTo, undivided}
+use Rattle.rules.specs.declared.Verdict.{Verdict}
+use Rattle.rules.specs.declared.Verdict.the-variants.{Passes, Fails}
+use Rattle.rules.specs.Reading.{Reading, Always, roomForStep, rests, halts, after, reading, tests, readTo, undivided}
 use Rattle.rules.specs.Calls.{opened, ended, endChecks, ending}
 use Rattle.rules.specs.Expansion.{expand, expansion, readPage, endPage, Accepted, allRecords, keptFor, SameState, SamePage}
 use Rattle.rules.proofs.Compute.{rules}

@@ -14,7 +14,9 @@ use Rattle.rules.specs.declared.Answer.{Answer}
 use Rattle.rules.specs.declared.Answer.the-variants.{Done, Full, Refused}
 use Rattle.rules.specs.Record.{bytesOfAll}
 use Rattle.rules.specs.Step.{State, withStatus, removeSpent, Source, FromBody, FromPiece, Sought, NothingLeft, Spoilt, Found, seek, Move, Stops, Goes, interpret}
-use Rattle.rules.specs.Reading.{Reading, Limit, Room, Always, Steps, roomForStep, stops, lessen, rests, halts, consumedBy, after, checks, onMove, onSought, reading, Verdict, Passes, Fails, tests, onVerdict, readTo}
+use Rattle.rules.specs.declared.Verdict.{Verdict}
+use Rattle.rules.specs.declared.Verdict.the-variants.{Passes, Fails}
+use Rattle.rules.specs.Reading.{Reading, Limit, Room, Always, Steps, roomForStep, stops, lessen, rests, halts, consumedBy, after, checks, onMove, onSought, reading, tests, onVerdict, readTo}
 use Rattle.rules.proofs.Bools.{true-false, false-true}
 use Rattle.rules.proofs.RecordCount.{records-length}
 use Rattle.rules.proofs.Steps.{remove-twice, extend, Some, seek-extend, Rest, seek-rest, Later, later-then, remove-later, Valid, step-later, step-most}

@@ -27,7 +27,9 @@ use Rattle.rules.specs.Coding.{Reaction, Refuse, Call, React, react}
 use Rattle.rules.specs.Drawing.{Outcome, Refuse as Refuse·drawing, Draw, act}
 use Rattle.rules.specs.Step.{State, withBodies, withStatus, stepped, removeSpent, Source, FromBody, FromPiece, Sought, NothingLeft, Spoilt, Found, fromBody, seekAt, seek, Move, Stops, Goes, onOutcome, call, onReaction, opensInside, interpret}
 use Rattle.rules.specs.Ranges.{placesFit, bodiesFit, waitingFits, drawingFits, fits}
-use Rattle.rules.specs.Reading.{consumedBy, Verdict, Passes, Fails, verdict, tests}
+use Rattle.rules.specs.declared.Verdict.{Verdict}
+use Rattle.rules.specs.declared.Verdict.the-variants.{Passes, Fails}
+use Rattle.rules.specs.Reading.{consumedBy, verdict, tests}
 use Rattle.rules.proofs.Bools.{false-true, and-left, and-right, and-both, pick-all, pick-by}
 use Rattle.rules.proofs.DrawingRanges.{Drawn, Fits, act-fits}
 use Rattle.rules.proofs.RecordCount.{AtMost, act-most}

@@ -25,7 +25,9 @@ use Rattle.rules.specs.Coding.{unfinished}
 use Rattle.rules.specs.Record.{bytesOfAll}
 use Rattle.rules.specs.Drawing.{Outcome, Refuse, Draw, act, isOpen, freshDrawing}
 use Rattle.rules.specs.Step.{State, withStatus, withDrawing}
-use Rattle.rules.specs.Reading.{Reading, Room, roomForStep, rests, halts, Verdict, Passes, Fails, tests, readTo}
+use Rattle.rules.specs.declared.Verdict.{Verdict}
+use Rattle.rules.specs.declared.Verdict.the-variants.{Passes, Fails}
+use Rattle.rules.specs.Reading.{Reading, Room, roomForStep, rests, halts, tests, readTo}
 
 -- The table's numbers
 unfoldable pub refusalNumber : Refusal → ℕ

@@ -9,6 +9,8 @@ use Rattle.rules.specs.declared.Refusal.{Refusal}
 use Rattle.rules.specs.declared.Refusal.the-variants.{BudgetUsed, StoreSize, OutOfRange, AfterEnd}
 use Rattle.rules.specs.declared.Status.{Status}
 use Rattle.rules.specs.declared.Status.the-variants.{Running, Ended, Stopped}
+use Rattle.rules.specs.declared.Verdict.{Verdict}
+use Rattle.rules.specs.declared.Verdict.the-variants.{Passes, Fails}
 use Rattle.rules.specs.declared.Answer.{Answer}
 use Rattle.rules.specs.declared.Answer.the-variants.{Done, Full, Refused}
 use Rattle.rules.specs.Store.{storeSize}
@@ -90,10 +92,6 @@ reading l (suc n) w bs =
     (λ v. onSought v (removeSpent w) (λ u rs r. reading (lessen l rs) n u r))
 
 -- "Feed tests 12 first, then 14, stopped, 13 on the session's fields, the step"; "A stopped session repeats its number"
-pub data Verdict : Type 0 where
-  Passes : Verdict
-  Fails : Refusal → Verdict
-
 abbrev pub verdict : Bool → Status → Bool → Verdict
 verdict false x f = Fails StoreSize
 verdict true Ended f = Fails AfterEnd
