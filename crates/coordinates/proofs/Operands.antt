@@ -2,7 +2,7 @@
 use mathlib.Core.Path.{_≡_, refl, sym, _∙_}
 use mathlib.Core.Bool.{Bool, true, false}
 use mathlib.Core.List.{List, [], _∷_, _++_, append-nil}
-use Prim.Native.Nat.{ℕ, zero, suc, _+_, _*_, _-_, _/_, _%_, _^_, _≤_, _<_}
+use Prim.Native.Nat.{ℕ, zero, suc, _+_, _*_, _-_, _/_, _%_, _^_, _<_}
 use native.Mathlib.Nat.{add-zero, zero-mul, div-one, mod-eq-of-lt}
 use native.Mathlib.Numerals.{add-one}
 use native.Mathlib.Omega.{arith}
@@ -94,10 +94,6 @@ domain-is b pel =
     let s : suc (fromTop 2 (row 2 0 b)) ≡ b % 4 + 1 = omega (arith, from-row 2 0 b) in
     let m : suc (fromTop 3 (row 3 2 b)) ≡ b / 4 % 8 + 1 = omega (arith, from-row 3 2 b) in
     λ i. record { single = s i; multi = m i; three = eqb (b / 32 % 2) 1; pel = pel }
-
--- Two bits
-pub pair-small : {r : ℕ} (b : ℕ) → r ≡ pair b → r ≤ 3
-pair-small b e = omega arith
 
 -- Of the bytes read by g, the pairs of the first four
 abbrev firstPairs : (ℕ → ℕ) → List ℕ → ℕ
