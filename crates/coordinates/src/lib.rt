@@ -1,6 +1,5 @@
 // Coordinates of 32 bits: sums that wrap, and what the bytes of an operand stand for.
 ghost use mathlib.Core.Path.{_≡_};
-ghost use mathlib.Core.Bool.{_||_};
 ghost use Prim.Native.Nat.{_+_, _*_, _%_, _^_, _<_, _≤_};
 ghost use lib.ListN.{length, getD};
 ghost use Rattle.rules.specs.Operands.{greenBits, redBits, blueBits, bitsOf, fromTop, point, address, begun, wrappedSum, leavesRange, displaced, displacedOut};
