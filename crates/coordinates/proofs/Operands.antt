@@ -2,15 +2,16 @@
 use mathlib.Core.Path.{_≡_, refl, sym, _∙_}
 use mathlib.Core.Bool.{Bool, true, false}
 use mathlib.Core.List.{List, [], _∷_, _++_, append-nil}
-use Prim.Native.Nat.{ℕ, zero, suc, _+_, _*_, _-_, _/_, _%_, _^_, _≤_, _<_}
+use Prim.Native.Nat.{ℕ, zero, suc, _+_, _*_, _-_, _/_, _%_, _^_, _<_}
 use native.Mathlib.Nat.{add-zero, zero-mul, div-one, mod-eq-of-lt}
 use native.Mathlib.Numerals.{add-one}
 use native.Mathlib.Omega.{arith}
 use lib.Dec.{eqb}
-use lib.ListN.{length, getD, take, drop, replicate}
-use lib.Seq.{take-suc, length-take-le}
+use lib.ListN.{length, getD, set, take, drop, replicate}
+use lib.Seq.{take-suc, take-suc-set, length-take-le}
 use Rattle.rules.specs.declared.Point.{Point}
-use Rattle.rules.specs.Operands.{bit, xBits, yBits, greenBits, redBits, blueBits, bitsOf, fromTop, point, address, wrappedSum}
+use Rattle.rules.specs.declared.Operand.{Operand}
+use Rattle.rules.specs.Operands.{bit, xBits, yBits, greenBits, redBits, blueBits, bitsOf, fromTop, point, address, begun, wrappedSum}
 use Rattle.rules.specs.Drawing.{domainOf}
 use Rattle.coordinates.specs.Steps.{joined, pair, pairs}
 use Rattle.coordinates.proofs.Bits.{from-none, from-append, from-above, from-zeros, from-lt, from-more, all-bits, row, row-length, row-bits, row-zeros, from-row}
@@ -59,6 +60,12 @@ pub point-next : (three : Bool) (bs : List ℕ) (i : ℕ) → i < length bs → 
 point-next three bs i h =
     rw (add-one, take-suc bs i 0 h, point-more three (take i bs) (getD bs i 0), length-take-le i bs (omega arith))
 
+-- The same of an operand that a data byte joins
+pub point-begun : (three : Bool) (o : Operand) (b : ℕ) → o .count < length (o .bytes) → point three (begun (record { bytes = set (o .bytes) (o .count) b; count = suc (o .count) })) ≡ joined three (o .count) b (point three (begun o))
+unfolding begun
+point-begun three o b h =
+    rw (take-suc-set (o .bytes) (o .count) b h, point-more three (take (o .count) (o .bytes)) b, length-take-le (o .count) (o .bytes) (omega arith))
+
 -- The code's shifts: by 3 bits for each byte before, or by 2
 module _ (p : Point) (x y i b : ℕ) (h : i < 8) where
   pub join-two : x ≡ (p .x + b / 8 % 8 * 2 ^ (29 - 3 * i)) % 2 ^ 32 → y ≡ (p .y + b % 8 * 2 ^ (29 - 3 * i)) % 2 ^ 32 → record { x = x; y = y } ≡ joined false i b p
@@ -94,10 +101,6 @@ domain-is b pel =
     let s : suc (fromTop 2 (row 2 0 b)) ≡ b % 4 + 1 = omega (arith, from-row 2 0 b) in
     let m : suc (fromTop 3 (row 3 2 b)) ≡ b / 4 % 8 + 1 = omega (arith, from-row 3 2 b) in
     λ i. record { single = s i; multi = m i; three = eqb (b / 32 % 2) 1; pel = pel }
-
--- Two bits
-pub pair-small : {r : ℕ} (b : ℕ) → r ≡ pair b → r ≤ 3
-pair-small b e = omega arith
 
 -- Of the bytes read by g, the pairs of the first four
 abbrev firstPairs : (ℕ → ℕ) → List ℕ → ℕ

@@ -8,11 +8,12 @@ use lib.Dec.{ltb, leb}
 use lib.IntN.{pos, negsuc, subℕ, _+ℤ_, +ℤ-comm}
 use Rattle.rules.specs.Operands.{signed, inRange, wrappedSum, leavesRange}
 
-pub low : (a : ℕ) → a < 2 ^ 31 → signed a ≡ pos a
+-- The numbers of the low patterns, and of the high ones
+low : (a : ℕ) → a < 2 ^ 31 → signed a ≡ pos a
 unfolding signed
 low a h = rw (lt-ltb a (2 ^ 31) h)
 
-pub high : (a : ℕ) → 2 ^ 31 ≤ a → a < 2 ^ 32 → signed a ≡ negsuc (2 ^ 32 - suc a)
+high : (a : ℕ) → 2 ^ 31 ≤ a → a < 2 ^ 32 → signed a ≡ negsuc (2 ^ 32 - suc a)
 unfolding signed
 high a h k = rw (le-ltb a (2 ^ 31) h, lt-ltb a (2 ^ 32) k)
 

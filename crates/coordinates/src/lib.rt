@@ -1,6 +1,5 @@
 // Coordinates of 32 bits: sums that wrap, and what the bytes of an operand stand for.
 ghost use mathlib.Core.Path.{_≡_};
-ghost use mathlib.Core.Bool.{_||_};
 ghost use Prim.Native.Nat.{_+_, _*_, _%_, _^_, _<_, _≤_};
 ghost use lib.ListN.{length, getD};
 ghost use Rattle.rules.specs.Operands.{greenBits, redBits, blueBits, bitsOf, fromTop, point, address, begun, wrappedSum, leavesRange, displaced, displacedOut};
@@ -13,11 +12,13 @@ use rules::Point;
 // The least pattern of a negative number.
 const NEGATIVE: u32 = 0x8000_0000;
 
+// A sum wrapped at 32 bits, and whether the sum of the numbers left the range.
 pub struct Sum {
     pub value: u32,
     pub outside: bool,
 }
 
+// A point displaced, and whether one of its sums left the range.
 pub struct Displaced {
     pub point: Point,
     pub outside: bool,
@@ -63,6 +64,7 @@ pub fn displace(p: Point, d: Point) -> Displaced
     Displaced { point, outside }
 }
 
+// Bits joined to the top of a coordinate, shifted to their place.
 fn put_bits(top: u32, bits: u32, shift: u32) -> u32
     requires { ⌜ shift < 32 ⌝ }
     ensures { λ r. ⌜ r ≡ (top + bits * 2 ^ shift) % 2 ^ 32 ⌝ }
@@ -132,7 +134,7 @@ pub fn address_of(o: Operand) -> u8
 
 // b4 and b1.
 fn pair(b: u8) -> u8
-    ensures { λ r. ⌜ r ≡ pair b ⌝ }
+    ensures { λ r. ⌜ (r ≡ pair b) × (r ≤ 3) ⌝ }
 {
     b / 8 % 2 * 2 + b % 2
 }

@@ -1,19 +1,12 @@
--- Fields of a record
+-- The mode and the colour bytes of a record
 use mathlib.Core.Path.{_≡_, sym}
-use mathlib.Core.Bool.{Bool, true, false}
-use Prim.Native.Nat.{ℕ, _≤_, zero-le}
-use native.Mathlib.Nat.{le-refl}
+use Prim.Native.Nat.{ℕ}
 use Rattle.rules.specs.declared.Colour.{Colour}
 use Rattle.rules.specs.declared.Mode.{Mode}
-use Rattle.rules.specs.Record.{flag, modeNumber, colour0, colour1, colour2}
+use Rattle.rules.specs.Record.{modeNumber, colour0, colour1, colour2}
 use Rattle.records.specs.Fields.{inkOf}
 
--- A flag is at most its number
-pub flag-most : (told : Bool) (n : ℕ) {r : ℕ} → r ≡ flag told n → r ≤ n
-flag-most true n e = rw e (le-refl n)
-flag-most false n e = rw e zero-le
-
--- The ink of a mode
+-- By the mode
 pub inked : (c : Colour) (m : Mode) {n : ℕ} → n ≡ modeNumber (c .mode) → c .mode ≡ m → record { mode = n; colour0 = colour0 m c; colour1 = colour1 m c; colour2 = colour2 m c } ≡ inkOf c
 inked c m e f =
     let g = sym f in

@@ -58,7 +58,7 @@ pub fn put_record(out: &mut [u8], at: usize, r: Record)
 }
 
 fn flag(told: bool, n: u8) -> u8
-    ensures { λ r. ⌜ r ≡ flag told n ⌝ }
+    ensures { λ r. ⌜ (r ≡ flag told n) × (r ≤ n) ⌝ }
 {
     if told { n } else { 0 }
 }

@@ -1,6 +1,4 @@
-use native.Mathlib.Omega.{arith}
 use Rattle.rules.specs.Record.{flags}
-use Rattle.records.proofs.Fields.{flag-most}
 use borrow.Author.Needs.{needs}
 use Rattle.records.proofs.flags.Statement.{statement}
 use Rattle.records.proofs.flags.Tie as tie
@@ -15,24 +13,14 @@ flag-requires-3 : tie.Need-flag-requires-3
 flag-requires-3 c κs = search needs
 
 add-result : tie.Need-add-result
-add-result c =
-    let s = c .before .before .before .args in
-    let f = flag-most (s .filled) 1 (c .before .before .flag .ensures) in
-    let w = flag-most (s .wrapped) 2 (c .before .flag2 .ensures) in
-    let e = flag-most (s .closing) 4 (c .flag3 .ensures) in
-    omega arith
+add-result c = search needs
 
 add-result-2 : tie.Need-add-result-2
-add-result-2 c =
-    let s = c .before .before .before .args in
-    let f = flag-most (s .filled) 1 (c .before .before .flag .ensures) in
-    let w = flag-most (s .wrapped) 2 (c .before .flag2 .ensures) in
-    let e = flag-most (s .closing) 4 (c .flag3 .ensures) in
-    omega arith
+add-result-2 c = search needs
 
 returns : tie.Need-returns
 unfolding flags
-returns c = rw (c .before .before .flag .ensures, c .before .flag2 .ensures, c .flag3 .ensures)
+returns c = rw (c .before .before .flag .ensures .0, c .before .flag2 .ensures .0, c .flag3 .ensures .0)
 
 pub flags-spec : {M : Type 1} → statement M
 flags-spec =
