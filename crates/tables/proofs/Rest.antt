@@ -21,6 +21,7 @@ use Rattle.rules.specs.Coding.{afterEscape, unfinished}
 use Rattle.rules.specs.Drawing.{advanced, dueAfter, lengthOf}
 use Rattle.rules.specs.Ranges.{operandLength}
 
+-- Patterns that do not repeat
 abbrev due-rest : List ℕ
 due-rest = 4 ∷ 5 ∷ 6 ∷ 7 ∷ 8 ∷ 9 ∷ 10 ∷ 11 ∷ []
 
@@ -39,6 +40,7 @@ due-otherwise SelectColour n h = refl
 due-otherwise SetColour n h = refl
 due-otherwise Skipped n h = refl
 
+-- Multi-value operands
 abbrev length-rest : List ℕ
 length-rest = 0 ∷ 1 ∷ 2 ∷ 3 ∷ 4 ∷ 5 ∷ 6 ∷ 8 ∷ 11 ∷ []
 
@@ -58,6 +60,7 @@ length-otherwise Background o h = absurd (miss length-rest 10 tt h)
 length-otherwise Shade o h = refl
 length-otherwise Dropped o h = absurd (miss length-rest 12 tt h)
 
+-- Patterns of multi-value operands
 abbrev operand-rest : List ℕ
 operand-rest = 0 ∷ 1 ∷ 2 ∷ 3 ∷ 4 ∷ 5 ∷ 6 ∷ 7 ∷ 8 ∷ 10 ∷ 11 ∷ []
 
@@ -76,6 +79,7 @@ operand-otherwise SelectColour o h = absurd (miss operand-rest 9 tt h)
 operand-otherwise SetColour o h = refl
 operand-otherwise Skipped o h = refl
 
+-- What is waited for after another byte than ESC
 abbrev escape-rest : List ℕ
 escape-rest = 0 ∷ 1 ∷ 3 ∷ 4 ∷ 5 ∷ 6 ∷ []
 
@@ -90,6 +94,7 @@ escape-otherwise Name h = refl
 escape-otherwise (Body d) h = refl
 escape-otherwise (BodyEscape d) h = absurd (miss escape-rest 7 tt h)
 
+-- What is waited for inside an escape sequence or a definition
 abbrev unfinished-rest : List ℕ
 unfinished-rest = 2 ∷ 3 ∷ 4 ∷ 5 ∷ 6 ∷ 7 ∷ []
 
