@@ -270,7 +270,7 @@ pub fn length_of(r: Role, d: Domain) -> u8
     }
 }
 
-// The bytes of the longest operand of a pattern.
+// The bytes of the operands of an open command, by its pattern.
 pub fn operand_length(p: Pattern, d: Domain) -> u8
     ensures { λ n. ⌜ n ≡ operandLength p d ⌝ }
 {
