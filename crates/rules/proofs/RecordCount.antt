@@ -2,7 +2,7 @@
 use Prim.Native.Nat.{ℕ, suc, _+_, _*_, _≤_, zero-le}
 use native.Mathlib.Nat.{le-refl, le-trans}
 use native.Mathlib.Omega.{arith}
-use mathlib.Core.Path.{_≡_, refl, sym, subst}
+use mathlib.Core.Path.{_≡_, refl, sym, ap, _∙_, subst}
 use mathlib.Core.Bool.{Bool, false}
 use mathlib.Core.List.{List, [], _∷_, _++_, append-assoc}
 use lib.ListN.{length, length-append}
@@ -145,19 +145,26 @@ act-most (Character x b) d = then-most 2 1 (close d) _ (close-most d) (λ e. one
 act-most (Opcode o) d = then-most 2 1 (close d) _ (close-most d) (open-most o)
 act-most (Data b) d = let r = rowOf (d .command .opcode) in within 1 3 (dataByte r b d) (omega arith) (data-most r b d)
 
--- Closing writes none where no command is open
+-- Closing where no command is open: nothing is drawn, and nothing is left begun
 
 closed-row : (d : Drawing) → isOpen d ≡ false → rowOf (d .command .opcode) ≡ other
 unfolding isOpen rowOf rows
 closed-row d e = rw (eqb-true (d .command .opcode) 0 (not-false _ e))
 
+abbrev pub closed : Drawing → Drawing
+closed d = withOperand noOperand (withCommand (opened 0 origin) d)
+
 abbrev closing : Drawing → Row → Outcome
 closing d r =
-    andThen (complete r d)
-    (λ e. andThen (finish (roleDue r e) (r .filled) e) (λ f. Draw (withOperand noOperand (withCommand (opened 0 origin) f)) []))
+    andThen (complete r d) (λ e. andThen (finish (roleDue r e) (r .filled) e) (λ f. Draw (closed f) []))
+
+pub closed-close : (d : Drawing) → isOpen d ≡ false → act Close d ≡ Draw (closed d) []
+unfolding act close complete applyBegun apply finish roleOf andThen
+closed-close d e =
+    ap (closing d) (closed-row d e)
+    ∙ pick-all
+    (λ (o : Outcome). andThen o (λ f. andThen (finish (roleDue other f) (other .filled) f) (λ g. Draw (closed g) [])) ≡ Draw (closed d) [])
+    (eqb (d .pen .operand .count) 0) refl refl
 
 pub closed-none : (d : Drawing) → isOpen d ≡ false → AtMost 0 (act Close d)
-unfolding act close complete applyBegun apply finish roleOf andThen
-closed-none d e =
-    subst (λ (r : Row). AtMost 0 (closing d r)) (sym (closed-row d e))
-    (then-most 0 0 (complete other d) _ (pick-all (AtMost 0) (eqb (d .pen .operand .count) 0) none none) (λ f. none))
+closed-none d e = subst (AtMost 0) (sym (closed-close d e)) none
