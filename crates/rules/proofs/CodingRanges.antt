@@ -1,9 +1,9 @@
 -- What a byte keeps in the coding layer: the length of the store and the range of the name being defined (13)
-use Prim.Native.Nat.{ℕ, zero, suc, _-_, _≤_}
+use Prim.Native.Nat.{ℕ, _-_, _≤_}
 use native.Mathlib.Omega.{arith}
 use mathlib.Core.Path.{_≡_, refl, ap, _∙_}
-use mathlib.Core.Bool.{Bool, true, false, _&&_, _||_}
-use mathlib.Core.List.{List, [], _∷_}
+use mathlib.Core.Bool.{Bool, true, false, _&&_}
+use mathlib.Core.List.{List}
 use lib.ListN.{getD, length, length-set}
 use lib.Dec.{ltb, leb, eqb}
 use borrow.Author.Tests.{ltb-true, ltb-false, le-leb}
@@ -26,8 +26,7 @@ use Rattle.rules.specs.declared.Designated.{Designated}
 use Rattle.rules.specs.declared.Designated.the-variants.{Names, Unassigned}
 use Rattle.rules.specs.declared.Inner.{Inner}
 use Rattle.rules.specs.declared.Inner.the-variants.{OpensNext, Bars, EndsBody, StartsAfresh, StoresBoth}
-use Rattle.rules.specs.declared.Action.{Action}
-use Rattle.rules.specs.declared.Action.the-variants.{Idle, Opcode, Data, Character}
+use Rattle.rules.specs.declared.Action.the-variants.{Opcode, Data}
 use Rattle.rules.specs.declared.Chain.{Chain}
 use Rattle.rules.specs.declared.Chain.the-variants.{Ends, TooLong}
 use Rattle.rules.specs.Choice.{pick}

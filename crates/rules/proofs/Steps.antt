@@ -1,11 +1,11 @@
 -- What a step keeps and what it may change
-use Prim.Native.Nat.{ℕ, zero, suc, _+_, _-_, _≤_, _<_}
+use Prim.Native.Nat.{ℕ, zero, suc, _+_, _≤_, _<_}
 use native.Mathlib.Nat.{zero-add}
 use native.Mathlib.Omega.{arith}
 use mathlib.Core.Path.{_≡_, refl, sym, ap, _∙_, subst}
 use mathlib.Core.Bool.{Bool, true, false, _&&_}
 use mathlib.Core.List.{List, [], _∷_, _++_}
-use lib.ListN.{getD, set, length, drop}
+use lib.ListN.{set, length, drop}
 use lib.Dec.{ltb, leb, eqb}
 use borrow.Author.Tests.{ltb-true, leb-true, le-leb}
 use Rattle.rules.specs.declared.Coding.{Coding}
@@ -25,7 +25,7 @@ use Rattle.rules.specs.Store.{storeSize, mostBytes, goodCount, countOf, 
 use Rattle.rules.specs.Bodies.{bodyAt, withBody, hasLeft, depthLeft, unspent, readCell, readBody, mostDepth, pushed}
 use Rattle.rules.specs.Coding.{Reaction, Refuse, Call, React, react}
 use Rattle.rules.specs.Drawing.{Outcome, Refuse as Refuse·drawing, Draw, act}
-use Rattle.rules.specs.Step.{State, withBodies, withStatus, stepped, removeSpent, Source, FromBody, FromPiece, Sought, NothingLeft, Spoilt, Found, fromBody, seekAt, seek, Move, Stops, Goes, onOutcome, call, onReaction, opensInside, interpret}
+use Rattle.rules.specs.Step.{State, withBodies, withStatus, stepped, removeSpent, Source, Sought, NothingLeft, Spoilt, Found, fromBody, seekAt, seek, Move, Stops, Goes, onOutcome, call, onReaction, opensInside, interpret}
 use Rattle.rules.specs.Ranges.{placesFit, bodiesFit, waitingFits, drawingFits, fits}
 use Rattle.rules.specs.declared.Verdict.{Verdict}
 use Rattle.rules.specs.declared.Verdict.the-variants.{Passes, Fails}
