@@ -9,4 +9,7 @@ returns c =
     λ out m. sym (carry-none _ _ (args· .at) out)
 
 pub no-record-spec : {M : Type 1} → statement M
-no-record-spec = tie.close (tie.spec returns)
+no-record-spec =
+    tie.close
+    (tie.spec
+    returns)

@@ -5,24 +5,6 @@ use borrow.Author.Needs.{needs}
 use Rattle.figures.proofs.arcs.arc_to.Statement.{statement}
 use Rattle.figures.proofs.arcs.arc_to.Tie as tie
 
-either-requires : tie.Need-either-requires
-either-requires c κs = search needs
-
-flags-requires : tie.Need-flags-requires
-flags-requires c κs = search needs
-
-figure-requires : tie.Need-figure-requires
-figure-requires c κs = search needs
-
-moved-requires : tie.Need-moved-requires
-moved-requires c κs = search needs
-
-one-record-requires : tie.Need-one-record-requires
-one-record-requires c κs = search needs
-
-same-length : tie.Need-same-length
-same-length c = search needs
-
 returns : tie.Need-returns
 unfolding arcTo carry
 returns c =
@@ -37,10 +19,10 @@ pub arc-to-spec : {M : Type 1} → statement M
 arc-to-spec =
     tie.close
     (tie.spec
-    either-requires
-    flags-requires
-    figure-requires
-    moved-requires
-    one-record-requires
-    same-length
+    (λ c κs. tt)
+    (λ c κs. tt)
+    (λ c κs. tt)
+    (λ c κs. tt)
+    (λ c κs. search needs)
+    (λ c. search needs)
     returns)

@@ -5,27 +5,6 @@ use borrow.Author.Needs.{needs}
 use Rattle.figures.proofs.colours.set_shade.Statement.{statement}
 use Rattle.figures.proofs.colours.set_shade.Tie as tie
 
-hue-of-requires : tie.Need-hue-of-requires
-hue-of-requires c κs = search needs
-
-enum-told : tie.Need-enum-told
-enum-told c = search needs
-
-shade-colour-requires : tie.Need-shade-colour-requires
-shade-colour-requires c κs = search needs
-
-enum-told-2 : tie.Need-enum-told-2
-enum-told-2 c = search needs
-
-shade-map-requires : tie.Need-shade-map-requires
-shade-map-requires c κs = search needs
-
-enum-told-3 : tie.Need-enum-told-3
-enum-told-3 c = search needs
-
-shade-map-requires-2 : tie.Need-shade-map-requires-2
-shade-map-requires-2 c κs = search needs
-
 returns : tie.Need-returns
 unfolding shadeTo
 returns c =
@@ -34,9 +13,6 @@ returns c =
     let shade-colour· = c .shade-colour in
     rw (← hue-of· .ensures .0, ← hue-of· .ensures .1, ← hue-of· .ensures .2) (shaded Direct _ _ _ _ _ _ (enum-told· .given .1) (shade-colour· .ensures _ _))
 
-same-length : tie.Need-same-length
-same-length c = search needs
-
 returns-2 : tie.Need-returns-2
 unfolding shadeTo
 returns-2 c =
@@ -44,9 +20,6 @@ returns-2 c =
     let enum-told2· = c .before .before .before .before .before .enum-told2 in
     let shade-map· = c .before .before .shade-map in
     rw (← hue-of· .ensures .0, ← hue-of· .ensures .1, ← hue-of· .ensures .2) (shaded Mapped _ _ _ _ _ _ (enum-told2· .given .1) (shade-map· .ensures))
-
-same-length-2 : tie.Need-same-length-2
-same-length-2 c = search needs
 
 returns-3 : tie.Need-returns-3
 unfolding shadeTo
@@ -60,15 +33,15 @@ pub set-shade-spec : {M : Type 1} → statement M
 set-shade-spec =
     tie.close
     (tie.spec
-    hue-of-requires
-    enum-told
-    shade-colour-requires
-    enum-told-2
-    shade-map-requires
-    enum-told-3
-    shade-map-requires-2
+    (λ c κs. tt)
+    (λ c. search needs)
+    (λ c κs. tt)
+    (λ c. search needs)
+    (λ c κs. search needs)
+    (λ c. search needs)
+    (λ c κs. search needs)
     returns
-    same-length
+    (λ c. search needs)
     returns-2
-    same-length-2
+    (λ c. search needs)
     returns-3)

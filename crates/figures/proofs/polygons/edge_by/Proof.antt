@@ -13,27 +13,6 @@ returns c =
     let if1· = c .if1 in
     λ m. rw (le-ltb _ _ (if1· .taken))
 
-displace-requires : tie.Need-displace-requires
-displace-requires c κs = search needs
-
-flags-requires : tie.Need-flags-requires
-flags-requires c κs = search needs
-
-figure-requires : tie.Need-figure-requires
-figure-requires c κs = search needs
-
-add-longer : tie.Need-add-longer
-add-longer c = search needs
-
-moved-requires : tie.Need-moved-requires
-moved-requires c κs = search needs
-
-one-record-requires : tie.Need-one-record-requires
-one-record-requires c κs = search needs
-
-same-length : tie.Need-same-length
-same-length c = search needs
-
 returns-2 : tie.Need-returns-2
 unfolding edgeBy carry
 returns-2 c =
@@ -50,11 +29,11 @@ edge-by-spec =
     tie.close
     (tie.spec
     returns
-    displace-requires
-    flags-requires
-    figure-requires
-    add-longer
-    moved-requires
-    one-record-requires
-    same-length
+    (λ c κs. tt)
+    (λ c κs. tt)
+    (λ c κs. tt)
+    (λ c. search needs)
+    (λ c κs. tt)
+    (λ c κs. search needs)
+    (λ c. search needs)
     returns-2)
