@@ -1,0 +1,49 @@
+use denote.Ref.{now}
+use borrow.Author.Tests.{eq-eqb, ne-eqb}
+use Rattle.rules.specs.declared.Waiting.the-variants.{Body}
+use Rattle.rules.specs.Coding.{inBody}
+use Rattle.coding.proofs.Answers.{unchanged}
+use Rattle.coding.proofs.DefinitionLaws.{kept}
+use borrow.Author.Needs.{needs}
+use Rattle.coding.proofs.definitions.in_body.Statement.{statement}
+use Rattle.coding.proofs.definitions.in_body.Tie as tie
+
+wait-for-requires : tie.Need-wait-for-requires
+wait-for-requires c κs = search needs
+
+returns : tie.Need-returns
+unfolding inBody
+returns c =
+    let if1· = c .before .if1 in
+    let wait-for· = c .wait-for in
+    let args· = c .before .before .before .args in
+    rw (eq-eqb _ _ (if1· .taken)) (unchanged (wait-for· .result) _ (now (args· .firsts)) (now (args· .store)) (wait-for· .ensures _ _))
+
+store-byte-requires : tie.Need-store-byte-requires
+store-byte-requires c κs = search needs
+
+keep-body-requires : tie.Need-keep-body-requires
+keep-body-requires c κs = search needs
+
+same-length : tie.Need-same-length
+same-length c = search needs
+
+returns-2 : tie.Need-returns-2
+unfolding inBody
+returns-2 c =
+    let if1· = c .before .before .before .before .before .before .if1 in
+    let store-byte· = c .before .before .before .store-byte in
+    let keep-body· = c .keep-body in
+    let args· = c .before .before .before .before .before .before .before .before .args in
+    rw (ne-eqb _ _ (if1· .left)) (kept Body _ _ (store-byte· .result) _ (keep-body· .result) (now (args· .firsts)) (now (args· .store)) (store-byte· .last .1 .0) (store-byte· .last .0) (store-byte· .ensures .0) (store-byte· .ensures .1) (keep-body· .ensures))
+
+pub in-body-spec : {M : Type 1} → statement M
+in-body-spec =
+    tie.close
+    (tie.spec
+    wait-for-requires
+    returns
+    store-byte-requires
+    keep-body-requires
+    same-length
+    returns-2)
