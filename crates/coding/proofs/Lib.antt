@@ -1,3 +1,4 @@
 pub mod Answers
 pub mod DefinitionLaws
 pub mod ReactLaws
+pub mod EffectLaws

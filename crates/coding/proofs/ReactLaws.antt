@@ -14,6 +14,7 @@ use Rattle.rules.specs.declared.Class.{Class}
 use Rattle.rules.specs.declared.Class.the-variants.{Below, Column2, Above}
 use Rattle.rules.specs.declared.Coding.{Coding}
 use Rattle.rules.specs.declared.Definition.{Definition}
+use Rattle.rules.specs.declared.Element.{Element}
 use Rattle.rules.specs.declared.Refusal.the-variants.{ByteOver127}
 use Rattle.rules.specs.declared.Sets.{Sets}
 use Rattle.rules.specs.declared.SingleShift.{SingleShift}
@@ -22,7 +23,9 @@ use Rattle.rules.specs.declared.Waiting.the-variants.{Nothing, Shifted, Escape,
 use Rattle.rules.specs.Coding.{Refuse, shiftedTo, classOf, reactTo, react}
 use Rattle.rules.specs.Ranges.{nameFits, waitingFits}
 use Rattle.macros.specs.Lent.{IsName}
-use Rattle.coding.specs.View.{codingOf, readFrom}
+use Rattle.coding.specs.View.{codingOf, reactionOf, readFrom}
+use Rattle.coding.specs.declared.reactions.Reacted.{Reacted}
+use Rattle.coding.proofs.Answers.{Answers, unchanged}
 
 -- The name being defined is one of the 96
 pub is-name : (d : Definition) → nameFits d ≡ true → IsName (d .name)
@@ -31,19 +34,19 @@ is-name d h =
     (leb-true 32 (d .name) (and-left (leb 32 (d .name)) (leb (d .name) 127) h), leb-true (d .name) 127 (and-right (leb 32 (d .name)) (leb (d .name) 127) h))
 
 -- What holds no definition is in range
-abbrev outside : List ℕ
-outside = 0 ∷ 1 ∷ 2 ∷ 3 ∷ 4 ∷ 5 ∷ []
+abbrev no-definition : List ℕ
+no-definition = 0 ∷ 1 ∷ 2 ∷ 3 ∷ 4 ∷ 5 ∷ []
 
-pub outside-fits : (w : Waiting) → OneOf outside (tagOf the-waiting w) → true ≡ waitingFits w
+pub others-fit : (w : Waiting) → OneOf no-definition (tagOf the-waiting w) → true ≡ waitingFits w
 unfolding waitingFits
-outside-fits Nothing h = refl
-outside-fits (Shifted s) h = refl
-outside-fits Escape h = refl
-outside-fits (Designator e) h = refl
-outside-fits Longer h = refl
-outside-fits Name h = refl
-outside-fits (Body d) h = absurd (miss outside 6 tt h)
-outside-fits (BodyEscape d) h = absurd (miss outside 7 tt h)
+others-fit Nothing h = refl
+others-fit (Shifted s) h = refl
+others-fit Escape h = refl
+others-fit (Designator e) h = refl
+others-fit Longer h = refl
+others-fit Name h = refl
+others-fit (Body d) h = absurd (miss no-definition 6 tt h)
+others-fit (BodyEscape d) h = absurd (miss no-definition 7 tt h)
 
 -- Where nothing is waited for the byte is read from the element in use, after a single shift from that shifted to
 pub from-used : (k : Class) (c : Coding) (st : List ℕ) (b : ℕ) → readFrom (c .sets .used) k c st b ≡ reactTo Nothing k c st b
@@ -52,18 +55,23 @@ from-used (Below k) c st b = refl
 from-used Column2 c st b = refl
 from-used Above c st b = refl
 
-pub from-shifted : (s : SingleShift) (k : Class) (c : Coding) (st : List ℕ) (b : ℕ) → readFrom (shiftedTo s) k c st b ≡ reactTo (Shifted s) k c st b
+pub from-shifted : (e : Element) (s : SingleShift) (k : Class) (c : Coding) (st : List ℕ) (b : ℕ) → e ≡ shiftedTo s
+    → readFrom e k c st b ≡ reactTo (Shifted s) k c st b
 unfolding readFrom reactTo
-from-shifted s (Below k) c st b = refl
-from-shifted s Column2 c st b = refl
-from-shifted s Above c st b = refl
+from-shifted e s (Below k) c st b h = refl
+from-shifted e s Column2 c st b h = rw h
+from-shifted e s Above c st b h = rw h
 
 -- A byte over 127, and any other
-module _ (s : Sets) (w : Waiting) (f st : List ℕ) (b : ℕ) where
-  pub over : 127 < b → Refuse ByteOver127 ≡ react (codingOf s w f) st b
+module _ (s : Sets) (w : Waiting) (f st : List ℕ) (b : ℕ) (r : Reacted) where
+  pub over : 127 < b → reactionOf r f st ≡ Refuse ByteOver127 → Answers r (react (codingOf s w f) st b) f st f st
   unfolding react
-  over h = rw (lt-ltb 127 b h)
+  over h e = rw (lt-ltb 127 b h) (unchanged r (Refuse ByteOver127) f st e)
 
-  pub within : b ≤ 127 → (v : Waiting) → w ≡ v → reactTo v (classOf b) (codingOf s v f) st b ≡ react (codingOf s w f) st b
-  unfolding react
-  within h v e = rw (le-ltb 127 b h, e)
+  module _ (h : b ≤ 127) (v : Waiting) (e : w ≡ v) where
+    pub inside : (f₁ st₁ : List ℕ) → Answers r (reactTo v (classOf b) (codingOf s v f) st b) f st f₁ st₁ → Answers r (react (codingOf s w f) st b) f st f₁ st₁
+    unfolding react
+    inside f₁ st₁ a = rw (le-ltb 127 b h, e) a
+
+    pub outside : reactionOf r f st ≡ reactTo v (classOf b) (codingOf s v f) st b → Answers r (react (codingOf s w f) st b) f st f st
+    outside x = inside f st (unchanged r _ f st x)

@@ -1,137 +1,157 @@
+use mathlib.Core.Path.{_∙_}
+use denote.Ref.{now}
+use Rattle.rules.specs.declared.Waiting.the-variants.{Nothing, Shifted, Escape, Designator, Longer, Name, Body, BodyEscape}
+use Rattle.rules.specs.Coding.{reactTo}
+use Rattle.rules.specs.Ranges.{waitingFits}
+use Rattle.coding.proofs.ReactLaws.{is-name, from-used, from-shifted, over, inside, outside}
 use borrow.Author.Needs.{needs}
 use Rattle.coding.proofs.react.Statement.{statement}
 use Rattle.coding.proofs.react.Tie as tie
-use Rattle.coding.proofs.react.Reads as reads
-use Rattle.coding.proofs.react.Lts as lts
-use Rattle.coding.proofs.definitions.in_body.Reads as in-body-reads
-use Rattle.coding.proofs.definitions.in_body_escape.Reads as in-body-escape-reads
-use Rattle.coding.proofs.definitions.take_name.Reads as take-name-reads
-use Rattle.coding.proofs.reactions.refuse.Reads as refuse-reads
-use Rattle.coding.proofs.sequences.in_designation.Reads as in-designation-reads
-use Rattle.coding.proofs.sequences.in_escape.Reads as in-escape-reads
-use Rattle.coding.proofs.sequences.in_longer.Reads as in-longer-reads
-use Rattle.coding.proofs.sequences.read_from.Reads as read-from-reads
-use Rattle.tables.proofs.sets.shifted_to.Reads as shifted-to-reads
 
--- src/lib.rt:39:9
 refuse-requires : tie.Need-refuse-requires
 refuse-requires c κs = search needs
 
--- src/lib.rt:39:9
 returns : tie.Need-returns
-returns c = ?
+returns c =
+    let args· = c .before .before .before .args in
+    let refuse· = c .refuse in
+    let if1· = c .before .if1 in
+    over (args· .sets) (args· .waiting) (now (args· .firsts)) (now (args· .store)) (args· .byte) (refuse· .result) (if1· .taken) (refuse· .ensures _ _)
 
--- src/lib.rt:43:17
 enum-told : tie.Need-enum-told
 enum-told c = search needs
 
--- src/lib.rt:44:13
 read-from-requires : tie.Need-read-from-requires
 read-from-requires c κs = search needs
 
--- src/lib.rt:46:26
 enum-known-waiting : tie.Need-enum-known-waiting
 enum-known-waiting c = search needs
 
--- src/lib.rt:46:46
 shifted-to-requires : tie.Need-shifted-to-requires
 shifted-to-requires c κs = search needs
 
--- src/lib.rt:46:36
 read-from-requires-2 : tie.Need-read-from-requires-2
 read-from-requires-2 c κs = search needs
 
--- src/lib.rt:47:28
 enum-told-2 : tie.Need-enum-told-2
 enum-told-2 c = search needs
 
--- src/lib.rt:47:28
 in-escape-requires : tie.Need-in-escape-requires
 in-escape-requires c κs = search needs
 
--- src/lib.rt:48:29
 enum-known-waiting-2 : tie.Need-enum-known-waiting-2
 enum-known-waiting-2 c = search needs
 
--- src/lib.rt:48:41
 in-designation-requires : tie.Need-in-designation-requires
 in-designation-requires c κs = search needs
 
--- src/lib.rt:49:28
 enum-told-3 : tie.Need-enum-told-3
 enum-told-3 c = search needs
 
--- src/lib.rt:49:28
 in-longer-requires : tie.Need-in-longer-requires
 in-longer-requires c κs = search needs
 
--- src/lib.rt:50:42
 enum-told-4 : tie.Need-enum-told-4
 enum-told-4 c = search needs
 
--- src/lib.rt:50:26
 take-name-requires : tie.Need-take-name-requires
 take-name-requires c κs = search needs
 
--- src/lib.rt:51:23
 enum-known-waiting-3 : tie.Need-enum-known-waiting-3
 enum-known-waiting-3 c = search needs
 
--- src/lib.rt:51:38
 in-body-requires : tie.Need-in-body-requires
-in-body-requires c κs = ?
+unfolding waitingFits
+in-body-requires c κs =
+    let waiting3· = c .before .before .before .waiting3 in
+    let pre· = c .before .before .before .before .before .before .before .pre in
+    (search needs, is-name _ (rw (waiting3· .given .1) at (pre· .1)))
 
--- src/lib.rt:52:29
 enum-known-waiting-4 : tie.Need-enum-known-waiting-4
 enum-known-waiting-4 c = search needs
 
--- src/lib.rt:52:44
 in-body-escape-requires : tie.Need-in-body-escape-requires
-in-body-escape-requires c κs = ?
+unfolding waitingFits
+in-body-escape-requires c κs =
+    let waiting4· = c .before .before .before .waiting4 in
+    let pre· = c .before .before .before .before .before .before .before .pre in
+    (search needs, is-name _ (rw (waiting4· .given .1) at (pre· .1)))
 
--- src/lib.rt:27:1
 returns-2 : tie.Need-returns-2
-returns-2 c = ?
+returns-2 c =
+    let args· = c .before .before .before .before .before .args in
+    let read-from· = c .read-from in
+    let if1· = c .before .before .before .if1 in
+    let enum-told· = c .before .enum-told in
+    outside (args· .sets) (args· .waiting) (now (args· .firsts)) (now (args· .store)) (args· .byte) (read-from· .result) (if1· .left) Nothing (enum-told· .given .1) (read-from· .ensures Nothing _ _ ∙ from-used _ _ _ _)
 
--- src/lib.rt:27:1
 returns-3 : tie.Need-returns-3
-returns-3 c = ?
+returns-3 c =
+    let args· = c .before .before .before .before .before .before .before .args in
+    let read-from2· = c .read-from2 in
+    let if1· = c .before .before .before .before .before .if1 in
+    let waiting· = c .before .before .before .waiting in
+    let shifted-to· = c .before .shifted-to in
+    outside (args· .sets) (args· .waiting) (now (args· .firsts)) (now (args· .store)) (args· .byte) (read-from2· .result) (if1· .left) (Shifted _) (waiting· .given .1) (read-from2· .ensures (Shifted _) _ _ ∙ from-shifted _ _ _ _ _ _ (shifted-to· .ensures))
 
--- src/lib.rt:27:1
 returns-4 : tie.Need-returns-4
-returns-4 c = ?
+returns-4 c =
+    let args· = c .before .before .before .before .before .args in
+    let in-escape· = c .in-escape in
+    let if1· = c .before .before .before .if1 in
+    let enum-told2· = c .before .enum-told2 in
+    outside (args· .sets) (args· .waiting) (now (args· .firsts)) (now (args· .store)) (args· .byte) (in-escape· .result) (if1· .left) Escape (enum-told2· .given .1) (in-escape· .ensures _ _)
 
--- src/lib.rt:27:1
 returns-5 : tie.Need-returns-5
-returns-5 c = ?
+returns-5 c =
+    let args· = c .before .before .before .before .before .before .args in
+    let in-designation· = c .in-designation in
+    let if1· = c .before .before .before .before .if1 in
+    let waiting2· = c .before .before .waiting2 in
+    outside (args· .sets) (args· .waiting) (now (args· .firsts)) (now (args· .store)) (args· .byte) (in-designation· .result) (if1· .left) (Designator _) (waiting2· .given .1) (in-designation· .ensures _ _)
 
--- src/lib.rt:27:1
 returns-6 : tie.Need-returns-6
-returns-6 c = ?
+returns-6 c =
+    let args· = c .before .before .before .before .before .args in
+    let in-longer· = c .in-longer in
+    let if1· = c .before .before .before .if1 in
+    let enum-told3· = c .before .enum-told3 in
+    outside (args· .sets) (args· .waiting) (now (args· .firsts)) (now (args· .store)) (args· .byte) (in-longer· .result) (if1· .left) Longer (enum-told3· .given .1) (in-longer· .ensures _ _)
 
--- src/lib.rt:27:1
 same-length : tie.Need-same-length
 same-length c = search needs
 
--- src/lib.rt:27:1
 returns-7 : tie.Need-returns-7
-returns-7 c = ?
+returns-7 c =
+    let args· = c .before .before .before .before .before .before .before .before .before .args in
+    let take-name· = c .before .before .take-name in
+    let if1· = c .before .before .before .before .before .before .before .if1 in
+    let enum-told4· = c .before .before .before .before .before .enum-told4 in
+    inside (args· .sets) (args· .waiting) (now (args· .firsts)) (now (args· .store)) (args· .byte) (take-name· .result) (if1· .left) Name (enum-told4· .given .1) _ _ (take-name· .ensures)
 
--- src/lib.rt:27:1
 same-length-2 : tie.Need-same-length-2
 same-length-2 c = search needs
 
--- src/lib.rt:27:1
 returns-8 : tie.Need-returns-8
-returns-8 c = ?
+unfolding reactTo
+returns-8 c =
+    let args· = c .before .before .before .before .before .before .before .before .before .before .args in
+    let in-body· = c .before .before .in-body in
+    let if1· = c .before .before .before .before .before .before .before .before .if1 in
+    let waiting3· = c .before .before .before .before .before .before .waiting3 in
+    inside (args· .sets) (args· .waiting) (now (args· .firsts)) (now (args· .store)) (args· .byte) (in-body· .result) (if1· .left) (Body _) (waiting3· .given .1) _ _ (in-body· .ensures)
 
--- src/lib.rt:27:1
 same-length-3 : tie.Need-same-length-3
 same-length-3 c = search needs
 
--- src/lib.rt:27:1
 returns-9 : tie.Need-returns-9
-returns-9 c = ?
+unfolding reactTo
+returns-9 c =
+    let args· = c .before .before .before .before .before .before .before .before .before .before .args in
+    let in-body-escape· = c .before .before .in-body-escape in
+    let if1· = c .before .before .before .before .before .before .before .before .if1 in
+    let waiting4· = c .before .before .before .before .before .before .waiting4 in
+    inside (args· .sets) (args· .waiting) (now (args· .firsts)) (now (args· .store)) (args· .byte) (in-body-escape· .result) (if1· .left) (BodyEscape _) (waiting4· .given .1) _ _ (in-body-escape· .ensures)
 
 pub react-spec : {M : Type 1} → statement M
 react-spec =

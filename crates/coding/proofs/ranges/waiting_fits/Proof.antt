@@ -1,4 +1,4 @@
-use Rattle.coding.proofs.ReactLaws.{outside-fits}
+use Rattle.coding.proofs.ReactLaws.{others-fit}
 use Rattle.rules.specs.Ranges.{waitingFits}
 use borrow.Author.Needs.{needs}
 use Rattle.coding.proofs.ranges.waiting_fits.Statement.{statement}
@@ -35,7 +35,7 @@ unfolding waitingFits
 returns-3 c =
     let args· = c .before .args in
     let match· = c .match in
-    outside-fits (args· .w) (match· .keys3)
+    others-fit (args· .w) (match· .keys3)
 
 pub waiting-fits-spec : {M : Type 1} → statement M
 waiting-fits-spec =
