@@ -36,7 +36,7 @@ fn open_body(sets: Sets, firsts: &mut [u8; 96], store: &mut [u8], name: u8) -> R
         FreeAnswer::Refused(refusal) => refuse(sets, refusal),
         FreeAnswer::Done => {
             set_first(firsts, name, 0);
-            wait_for(Waiting::Body(Definition { name, last: 0 }), sets)
+            wait_for(sets, Waiting::Body(Definition { name, last: 0 }))
         }
     }
 }
@@ -53,22 +53,22 @@ pub fn take_name(sets: Sets, firsts: &mut [u8; 96], store: &mut [u8], byte: u8) 
 }
 
 // The definition goes on after what was stored.
-fn keep_body(answer: StoreAnswer, sets: Sets) -> Reacted
+fn keep_body(sets: Sets, answer: StoreAnswer) -> Reacted
     ensures { λ r. ⌜ ((w : Waiting) (f g st : List ℕ) → reactionOf r f st ≡ keep Waiting.Body (storingOf answer f st) (codingOf sets w g)) ⌝ }
 {
     match answer {
         StoreAnswer::Refused(refusal) => refuse(sets, refusal),
-        StoreAnswer::Done(definition) => wait_for(Waiting::Body(definition), sets),
+        StoreAnswer::Done(definition) => wait_for(sets, Waiting::Body(definition)),
     }
 }
 
 // An ESC was read after what was stored.
-fn keep_escape(answer: StoreAnswer, sets: Sets) -> Reacted
+fn keep_escape(sets: Sets, answer: StoreAnswer) -> Reacted
     ensures { λ r. ⌜ ((w : Waiting) (f g st : List ℕ) → reactionOf r f st ≡ keep Waiting.BodyEscape (storingOf answer f st) (codingOf sets w g)) ⌝ }
 {
     match answer {
         StoreAnswer::Refused(refusal) => refuse(sets, refusal),
-        StoreAnswer::Done(definition) => wait_for(Waiting::BodyEscape(definition), sets),
+        StoreAnswer::Done(definition) => wait_for(sets, Waiting::BodyEscape(definition)),
     }
 }
 
@@ -84,9 +84,9 @@ pub fn in_body(
     ensures kept { λ r. ⌜ (Kept r (now (firsts .entry)) (now (firsts .exit))) × (Kept r (now (store .entry)) (now (store .exit))) ⌝ }
 {
     if byte == ESC {
-        return wait_for(Waiting::BodyEscape(definition), sets);
+        return wait_for(sets, Waiting::BodyEscape(definition));
     }
-    keep_body(store_byte(store, firsts, definition, byte), sets)
+    keep_body(sets, store_byte(store, firsts, definition, byte))
 }
 
 // The byte after an ESC in a definition.
@@ -102,10 +102,10 @@ pub fn in_body_escape(
     ensures kept { λ r. ⌜ (Kept r (now (firsts .entry)) (now (firsts .exit))) × (Kept r (now (store .entry)) (now (store .exit))) ⌝ }
 {
     match inner_of(byte) {
-        Inner::OpensNext => wait_for(Waiting::Name, sets),
+        Inner::OpensNext => wait_for(sets, Waiting::Name),
         Inner::Bars => refuse(sets, Refusal::Unsupported),
-        Inner::EndsBody => wait_for(Waiting::Nothing, sets),
-        Inner::StartsAfresh => keep_escape(store_byte(store, firsts, definition, ESC), sets),
-        Inner::StoresBoth => keep_body(store_escape_and(store, firsts, definition, byte), sets),
+        Inner::EndsBody => wait_for(sets, Waiting::Nothing),
+        Inner::StartsAfresh => keep_escape(sets, store_byte(store, firsts, definition, ESC)),
+        Inner::StoresBoth => keep_body(sets, store_escape_and(store, firsts, definition, byte)),
     }
 }

@@ -1,17 +1,19 @@
 // The coding layer: what a byte does by what is waited for. It asks an action of drawing, calls a macro or is refused.
+pub mod characters;
 pub mod definitions;
+pub mod escapes;
 pub mod ranges;
 pub mod reactions;
-pub mod sequences;
+
+use crate::characters::read_from;
 use crate::definitions::in_body;
 use crate::definitions::in_body_escape;
 use crate::definitions::take_name;
+use crate::escapes::in_designation;
+use crate::escapes::in_escape;
+use crate::escapes::in_longer;
 use crate::reactions::Reacted;
 use crate::reactions::refuse;
-use crate::sequences::in_designation;
-use crate::sequences::in_escape;
-use crate::sequences::in_longer;
-use crate::sequences::read_from;
 use rules::Refusal;
 use rules::Sets;
 use rules::Waiting;

@@ -6,7 +6,7 @@ use rules::Waiting;
 ghost use mathlib.Core.List.{List};
 ghost use mathlib.Core.Path.{_≡_};
 ghost use Prim.Native.Nat.{ℕ};
-ghost use Rattle.rules.specs.Coding.{Refuse, React};
+ghost use Rattle.rules.specs.Coding.{Refuse, Call, React};
 ghost use Rattle.coding.specs.View.{codingOf, reactionOf};
 
 pub enum Effect {
@@ -33,7 +33,7 @@ pub fn refuse(sets: Sets, refusal: Refusal) -> Reacted
 }
 
 // Asks nothing of drawing.
-pub fn wait_for(waiting: Waiting, sets: Sets) -> Reacted
+pub fn wait_for(sets: Sets, waiting: Waiting) -> Reacted
     ensures { λ r. ⌜ ((f st : List ℕ) → reactionOf r f st ≡ React (codingOf sets waiting f) st Action.Idle) ⌝ }
 {
     Reacted {
@@ -48,6 +48,16 @@ pub fn act(sets: Sets, action: Action) -> Reacted
 {
     Reacted {
         effect: Effect::Acts(action),
+        sets,
+        waiting: Waiting::Nothing,
+    }
+}
+
+pub fn call(sets: Sets, name: u8) -> Reacted
+    ensures { λ r. ⌜ ((f st : List ℕ) → reactionOf r f st ≡ Call (codingOf sets Waiting.Nothing f) name) ⌝ }
+{
+    Reacted {
+        effect: Effect::Calls(name),
         sets,
         waiting: Waiting::Nothing,
     }

@@ -1,5 +1,4 @@
 use mathlib.Core.Path.{_∙_}
-use denote.Ref.{now}
 use Rattle.rules.specs.declared.Waiting.the-variants.{Nothing, Shifted, Escape, Designator, Longer, Name, Body, BodyEscape}
 use Rattle.rules.specs.Coding.{reactTo}
 use Rattle.rules.specs.Ranges.{waitingFits}
@@ -8,57 +7,11 @@ use borrow.Author.Needs.{needs}
 use Rattle.coding.proofs.react.Statement.{statement}
 use Rattle.coding.proofs.react.Tie as tie
 
-refuse-requires : tie.Need-refuse-requires
-refuse-requires c κs = search needs
-
 returns : tie.Need-returns
 returns c =
-    let args· = c .before .before .before .args in
     let refuse· = c .refuse in
     let if1· = c .before .if1 in
-    over (args· .sets) (args· .waiting) (now (args· .firsts)) (now (args· .store)) (args· .byte) (refuse· .result) (if1· .taken) (refuse· .ensures _ _)
-
-enum-told : tie.Need-enum-told
-enum-told c = search needs
-
-read-from-requires : tie.Need-read-from-requires
-read-from-requires c κs = search needs
-
-enum-known-waiting : tie.Need-enum-known-waiting
-enum-known-waiting c = search needs
-
-shifted-to-requires : tie.Need-shifted-to-requires
-shifted-to-requires c κs = search needs
-
-read-from-requires-2 : tie.Need-read-from-requires-2
-read-from-requires-2 c κs = search needs
-
-enum-told-2 : tie.Need-enum-told-2
-enum-told-2 c = search needs
-
-in-escape-requires : tie.Need-in-escape-requires
-in-escape-requires c κs = search needs
-
-enum-known-waiting-2 : tie.Need-enum-known-waiting-2
-enum-known-waiting-2 c = search needs
-
-in-designation-requires : tie.Need-in-designation-requires
-in-designation-requires c κs = search needs
-
-enum-told-3 : tie.Need-enum-told-3
-enum-told-3 c = search needs
-
-in-longer-requires : tie.Need-in-longer-requires
-in-longer-requires c κs = search needs
-
-enum-told-4 : tie.Need-enum-told-4
-enum-told-4 c = search needs
-
-take-name-requires : tie.Need-take-name-requires
-take-name-requires c κs = search needs
-
-enum-known-waiting-3 : tie.Need-enum-known-waiting-3
-enum-known-waiting-3 c = search needs
+    over _ _ _ _ _ (refuse· .result) (if1· .taken) (refuse· .ensures _ _)
 
 in-body-requires : tie.Need-in-body-requires
 unfolding waitingFits
@@ -66,9 +19,6 @@ in-body-requires c κs =
     let waiting3· = c .before .before .before .waiting3 in
     let pre· = c .before .before .before .before .before .before .before .pre in
     (search needs, is-name _ (rw (waiting3· .given .1) at (pre· .1)))
-
-enum-known-waiting-4 : tie.Need-enum-known-waiting-4
-enum-known-waiting-4 c = search needs
 
 in-body-escape-requires : tie.Need-in-body-escape-requires
 unfolding waitingFits
@@ -79,111 +29,94 @@ in-body-escape-requires c κs =
 
 returns-2 : tie.Need-returns-2
 returns-2 c =
-    let args· = c .before .before .before .before .before .args in
     let read-from· = c .read-from in
     let if1· = c .before .before .before .if1 in
     let enum-told· = c .before .enum-told in
-    outside (args· .sets) (args· .waiting) (now (args· .firsts)) (now (args· .store)) (args· .byte) (read-from· .result) (if1· .left) Nothing (enum-told· .given .1) (read-from· .ensures Nothing _ _ ∙ from-used _ _ _ _)
+    outside _ _ _ _ _ (read-from· .result) (if1· .left) Nothing (enum-told· .given .1) (read-from· .ensures Nothing _ _ ∙ from-used _ _ _ _)
 
 returns-3 : tie.Need-returns-3
 returns-3 c =
-    let args· = c .before .before .before .before .before .before .before .args in
     let read-from2· = c .read-from2 in
     let if1· = c .before .before .before .before .before .if1 in
     let waiting· = c .before .before .before .waiting in
     let shifted-to· = c .before .shifted-to in
-    outside (args· .sets) (args· .waiting) (now (args· .firsts)) (now (args· .store)) (args· .byte) (read-from2· .result) (if1· .left) (Shifted _) (waiting· .given .1) (read-from2· .ensures (Shifted _) _ _ ∙ from-shifted _ _ _ _ _ _ (shifted-to· .ensures))
+    outside _ _ _ _ _ (read-from2· .result) (if1· .left) (Shifted _) (waiting· .given .1) (read-from2· .ensures (Shifted _) _ _ ∙ from-shifted _ _ _ _ _ _ (shifted-to· .ensures))
 
 returns-4 : tie.Need-returns-4
 returns-4 c =
-    let args· = c .before .before .before .before .before .args in
     let in-escape· = c .in-escape in
     let if1· = c .before .before .before .if1 in
     let enum-told2· = c .before .enum-told2 in
-    outside (args· .sets) (args· .waiting) (now (args· .firsts)) (now (args· .store)) (args· .byte) (in-escape· .result) (if1· .left) Escape (enum-told2· .given .1) (in-escape· .ensures _ _)
+    outside _ _ _ _ _ (in-escape· .result) (if1· .left) Escape (enum-told2· .given .1) (in-escape· .ensures _ _)
 
 returns-5 : tie.Need-returns-5
 returns-5 c =
-    let args· = c .before .before .before .before .before .before .args in
     let in-designation· = c .in-designation in
     let if1· = c .before .before .before .before .if1 in
     let waiting2· = c .before .before .waiting2 in
-    outside (args· .sets) (args· .waiting) (now (args· .firsts)) (now (args· .store)) (args· .byte) (in-designation· .result) (if1· .left) (Designator _) (waiting2· .given .1) (in-designation· .ensures _ _)
+    outside _ _ _ _ _ (in-designation· .result) (if1· .left) (Designator _) (waiting2· .given .1) (in-designation· .ensures _ _)
 
 returns-6 : tie.Need-returns-6
 returns-6 c =
-    let args· = c .before .before .before .before .before .args in
     let in-longer· = c .in-longer in
     let if1· = c .before .before .before .if1 in
     let enum-told3· = c .before .enum-told3 in
-    outside (args· .sets) (args· .waiting) (now (args· .firsts)) (now (args· .store)) (args· .byte) (in-longer· .result) (if1· .left) Longer (enum-told3· .given .1) (in-longer· .ensures _ _)
-
-same-length : tie.Need-same-length
-same-length c = search needs
+    outside _ _ _ _ _ (in-longer· .result) (if1· .left) Longer (enum-told3· .given .1) (in-longer· .ensures _ _)
 
 returns-7 : tie.Need-returns-7
 returns-7 c =
-    let args· = c .before .before .before .before .before .before .before .before .before .args in
     let take-name· = c .before .before .take-name in
     let if1· = c .before .before .before .before .before .before .before .if1 in
     let enum-told4· = c .before .before .before .before .before .enum-told4 in
-    inside (args· .sets) (args· .waiting) (now (args· .firsts)) (now (args· .store)) (args· .byte) (take-name· .result) (if1· .left) Name (enum-told4· .given .1) _ _ (take-name· .ensures)
-
-same-length-2 : tie.Need-same-length-2
-same-length-2 c = search needs
+    inside _ _ _ _ _ (take-name· .result) (if1· .left) Name (enum-told4· .given .1) _ _ (take-name· .ensures)
 
 returns-8 : tie.Need-returns-8
 unfolding reactTo
 returns-8 c =
-    let args· = c .before .before .before .before .before .before .before .before .before .before .args in
     let in-body· = c .before .before .in-body in
     let if1· = c .before .before .before .before .before .before .before .before .if1 in
     let waiting3· = c .before .before .before .before .before .before .waiting3 in
-    inside (args· .sets) (args· .waiting) (now (args· .firsts)) (now (args· .store)) (args· .byte) (in-body· .result) (if1· .left) (Body _) (waiting3· .given .1) _ _ (in-body· .ensures)
-
-same-length-3 : tie.Need-same-length-3
-same-length-3 c = search needs
+    inside _ _ _ _ _ (in-body· .result) (if1· .left) (Body _) (waiting3· .given .1) _ _ (in-body· .ensures)
 
 returns-9 : tie.Need-returns-9
 unfolding reactTo
 returns-9 c =
-    let args· = c .before .before .before .before .before .before .before .before .before .before .args in
     let in-body-escape· = c .before .before .in-body-escape in
     let if1· = c .before .before .before .before .before .before .before .before .if1 in
     let waiting4· = c .before .before .before .before .before .before .waiting4 in
-    inside (args· .sets) (args· .waiting) (now (args· .firsts)) (now (args· .store)) (args· .byte) (in-body-escape· .result) (if1· .left) (BodyEscape _) (waiting4· .given .1) _ _ (in-body-escape· .ensures)
+    inside _ _ _ _ _ (in-body-escape· .result) (if1· .left) (BodyEscape _) (waiting4· .given .1) _ _ (in-body-escape· .ensures)
 
 pub react-spec : {M : Type 1} → statement M
 react-spec =
     tie.close
     (tie.spec
-    refuse-requires
+    (λ c κs. search needs)
     returns
-    enum-told
-    read-from-requires
-    enum-known-waiting
-    shifted-to-requires
-    read-from-requires-2
-    enum-told-2
-    in-escape-requires
-    enum-known-waiting-2
-    in-designation-requires
-    enum-told-3
-    in-longer-requires
-    enum-told-4
-    take-name-requires
-    enum-known-waiting-3
+    (λ c. search needs)
+    (λ c κs. search needs)
+    (λ c. search needs)
+    (λ c κs. search needs)
+    (λ c κs. search needs)
+    (λ c. search needs)
+    (λ c κs. search needs)
+    (λ c. search needs)
+    (λ c κs. search needs)
+    (λ c. search needs)
+    (λ c κs. search needs)
+    (λ c. search needs)
+    (λ c κs. search needs)
+    (λ c. search needs)
     in-body-requires
-    enum-known-waiting-4
+    (λ c. search needs)
     in-body-escape-requires
     returns-2
     returns-3
     returns-4
     returns-5
     returns-6
-    same-length
+    (λ c. search needs)
     returns-7
-    same-length-2
+    (λ c. search needs)
     returns-8
-    same-length-3
+    (λ c. search needs)
     returns-9)

@@ -8,9 +8,6 @@ use borrow.Author.Needs.{needs}
 use Rattle.coding.proofs.definitions.in_body.Statement.{statement}
 use Rattle.coding.proofs.definitions.in_body.Tie as tie
 
-wait-for-requires : tie.Need-wait-for-requires
-wait-for-requires c κs = search needs
-
 returns : tie.Need-returns
 unfolding inBody
 returns c =
@@ -18,15 +15,6 @@ returns c =
     let wait-for· = c .wait-for in
     let args· = c .before .before .before .args in
     rw (eq-eqb _ _ (if1· .taken)) (unchanged (wait-for· .result) _ (now (args· .firsts)) (now (args· .store)) (wait-for· .ensures _ _))
-
-store-byte-requires : tie.Need-store-byte-requires
-store-byte-requires c κs = search needs
-
-keep-body-requires : tie.Need-keep-body-requires
-keep-body-requires c κs = search needs
-
-same-length : tie.Need-same-length
-same-length c = search needs
 
 returns-2 : tie.Need-returns-2
 unfolding inBody
@@ -41,9 +29,9 @@ pub in-body-spec : {M : Type 1} → statement M
 in-body-spec =
     tie.close
     (tie.spec
-    wait-for-requires
+    (λ c κs. search needs)
     returns
-    store-byte-requires
-    keep-body-requires
-    same-length
+    (λ c κs. search needs)
+    (λ c κs. search needs)
+    (λ c. search needs)
     returns-2)

@@ -7,45 +7,6 @@ use borrow.Author.Needs.{needs}
 use Rattle.coding.proofs.definitions.in_body_escape.Statement.{statement}
 use Rattle.coding.proofs.definitions.in_body_escape.Tie as tie
 
-inner-of-requires : tie.Need-inner-of-requires
-inner-of-requires c κs = search needs
-
-enum-told : tie.Need-enum-told
-enum-told c = search needs
-
-wait-for-requires : tie.Need-wait-for-requires
-wait-for-requires c κs = search needs
-
-enum-told-2 : tie.Need-enum-told-2
-enum-told-2 c = search needs
-
-refuse-requires : tie.Need-refuse-requires
-refuse-requires c κs = search needs
-
-enum-told-3 : tie.Need-enum-told-3
-enum-told-3 c = search needs
-
-wait-for-requires-2 : tie.Need-wait-for-requires-2
-wait-for-requires-2 c κs = search needs
-
-enum-told-4 : tie.Need-enum-told-4
-enum-told-4 c = search needs
-
-store-byte-requires : tie.Need-store-byte-requires
-store-byte-requires c κs = search needs
-
-keep-escape-requires : tie.Need-keep-escape-requires
-keep-escape-requires c κs = search needs
-
-enum-told-5 : tie.Need-enum-told-5
-enum-told-5 c = search needs
-
-store-escape-and-requires : tie.Need-store-escape-and-requires
-store-escape-and-requires c κs = search needs
-
-keep-body-requires : tie.Need-keep-body-requires
-keep-body-requires c κs = search needs
-
 returns : tie.Need-returns
 unfolding inBodyEscape
 returns c =
@@ -73,9 +34,6 @@ returns-3 c =
     let args· = c .before .before .before .before .before .args in
     rw (← inner-of· .ensures, enum-told3· .given .1) (unchanged (wait-for2· .result) _ (now (args· .firsts)) (now (args· .store)) (wait-for2· .ensures _ _))
 
-same-length : tie.Need-same-length
-same-length c = search needs
-
 returns-4 : tie.Need-returns-4
 unfolding inBodyEscape
 returns-4 c =
@@ -85,9 +43,6 @@ returns-4 c =
     let keep-escape· = c .keep-escape in
     let args· = c .before .before .before .before .before .before .before .before .before .before .args in
     rw (← inner-of· .ensures, enum-told4· .given .1) (kept BodyEscape _ _ (store-byte· .result) _ (keep-escape· .result) (now (args· .firsts)) (now (args· .store)) (store-byte· .last .1 .0) (store-byte· .last .0) (store-byte· .ensures .0) (store-byte· .ensures .1) (keep-escape· .ensures))
-
-same-length-2 : tie.Need-same-length-2
-same-length-2 c = search needs
 
 returns-5 : tie.Need-returns-5
 unfolding inBodyEscape
@@ -103,23 +58,23 @@ pub in-body-escape-spec : {M : Type 1} → statement M
 in-body-escape-spec =
     tie.close
     (tie.spec
-    inner-of-requires
-    enum-told
-    wait-for-requires
-    enum-told-2
-    refuse-requires
-    enum-told-3
-    wait-for-requires-2
-    enum-told-4
-    store-byte-requires
-    keep-escape-requires
-    enum-told-5
-    store-escape-and-requires
-    keep-body-requires
+    (λ c κs. search needs)
+    (λ c. search needs)
+    (λ c κs. search needs)
+    (λ c. search needs)
+    (λ c κs. search needs)
+    (λ c. search needs)
+    (λ c κs. search needs)
+    (λ c. search needs)
+    (λ c κs. search needs)
+    (λ c κs. search needs)
+    (λ c. search needs)
+    (λ c κs. search needs)
+    (λ c κs. search needs)
     returns
     returns-2
     returns-3
-    same-length
+    (λ c. search needs)
     returns-4
-    same-length-2
+    (λ c. search needs)
     returns-5)

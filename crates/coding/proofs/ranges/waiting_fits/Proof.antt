@@ -4,18 +4,6 @@ use borrow.Author.Needs.{needs}
 use Rattle.coding.proofs.ranges.waiting_fits.Statement.{statement}
 use Rattle.coding.proofs.ranges.waiting_fits.Tie as tie
 
-enum-known-w : tie.Need-enum-known-w
-enum-known-w c = search needs
-
-name-fits-requires : tie.Need-name-fits-requires
-name-fits-requires c κs = search needs
-
-enum-known-w-2 : tie.Need-enum-known-w-2
-enum-known-w-2 c = search needs
-
-name-fits-requires-2 : tie.Need-name-fits-requires-2
-name-fits-requires-2 c κs = search needs
-
 returns : tie.Need-returns
 unfolding waitingFits
 returns c =
@@ -41,10 +29,10 @@ pub waiting-fits-spec : {M : Type 1} → statement M
 waiting-fits-spec =
     tie.close
     (tie.spec
-    enum-known-w
-    name-fits-requires
-    enum-known-w-2
-    name-fits-requires-2
+    (λ c. search needs)
+    (λ c κs. search needs)
+    (λ c. search needs)
+    (λ c κs. search needs)
     returns
     returns-2
     returns-3)

@@ -1,34 +1,7 @@
 use Rattle.rules.specs.Coding.{reactTo}
 use borrow.Author.Needs.{needs}
-use Rattle.coding.proofs.sequences.in_escape.Statement.{statement}
-use Rattle.coding.proofs.sequences.in_escape.Tie as tie
-
-class-of-requires : tie.Need-class-of-requires
-class-of-requires c κs = search needs
-
-enum-known-k : tie.Need-enum-known-k
-enum-known-k c = search needs
-
-control-requires : tie.Need-control-requires
-control-requires c κs = search needs
-
-enum-told : tie.Need-enum-told
-enum-told c = search needs
-
-designator-of-requires : tie.Need-designator-of-requires
-designator-of-requires c κs = search needs
-
-wait-for-requires : tie.Need-wait-for-requires
-wait-for-requires c κs = search needs
-
-enum-told-2 : tie.Need-enum-told-2
-enum-told-2 c = search needs
-
-final-of-requires : tie.Need-final-of-requires
-final-of-requires c κs = search needs
-
-escape-requires : tie.Need-escape-requires
-escape-requires c κs = search needs
+use Rattle.coding.proofs.escapes.in_escape.Statement.{statement}
+use Rattle.coding.proofs.escapes.in_escape.Tie as tie
 
 returns : tie.Need-returns
 unfolding reactTo
@@ -60,15 +33,15 @@ pub in-escape-spec : {M : Type 1} → statement M
 in-escape-spec =
     tie.close
     (tie.spec
-    class-of-requires
-    enum-known-k
-    control-requires
-    enum-told
-    designator-of-requires
-    wait-for-requires
-    enum-told-2
-    final-of-requires
-    escape-requires
+    (λ c κs. search needs)
+    (λ c. search needs)
+    (λ c κs. search needs)
+    (λ c. search needs)
+    (λ c κs. search needs)
+    (λ c κs. search needs)
+    (λ c. search needs)
+    (λ c κs. search needs)
+    (λ c κs. search needs)
     returns
     returns-2
     returns-3)

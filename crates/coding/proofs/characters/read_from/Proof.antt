@@ -1,34 +1,7 @@
 use Rattle.coding.specs.View.{readFrom}
 use borrow.Author.Needs.{needs}
-use Rattle.coding.proofs.sequences.read_from.Statement.{statement}
-use Rattle.coding.proofs.sequences.read_from.Tie as tie
-
-class-of-requires : tie.Need-class-of-requires
-class-of-requires c κs = search needs
-
-enum-known-k : tie.Need-enum-known-k
-enum-known-k c = search needs
-
-control-requires : tie.Need-control-requires
-control-requires c κs = search needs
-
-enum-told : tie.Need-enum-told
-enum-told c = search needs
-
-set-of-requires : tie.Need-set-of-requires
-set-of-requires c κs = search needs
-
-graphic-requires : tie.Need-graphic-requires
-graphic-requires c κs = search needs
-
-enum-told-2 : tie.Need-enum-told-2
-enum-told-2 c = search needs
-
-set-of-requires-2 : tie.Need-set-of-requires-2
-set-of-requires-2 c κs = search needs
-
-graphic-requires-2 : tie.Need-graphic-requires-2
-graphic-requires-2 c κs = search needs
+use Rattle.coding.proofs.characters.read_from.Statement.{statement}
+use Rattle.coding.proofs.characters.read_from.Tie as tie
 
 returns : tie.Need-returns
 unfolding readFrom
@@ -60,15 +33,15 @@ pub read-from-spec : {M : Type 1} → statement M
 read-from-spec =
     tie.close
     (tie.spec
-    class-of-requires
-    enum-known-k
-    control-requires
-    enum-told
-    set-of-requires
-    graphic-requires
-    enum-told-2
-    set-of-requires-2
-    graphic-requires-2
+    (λ c κs. search needs)
+    (λ c. search needs)
+    (λ c κs. search needs)
+    (λ c. search needs)
+    (λ c κs. search needs)
+    (λ c κs. search needs)
+    (λ c. search needs)
+    (λ c κs. search needs)
+    (λ c κs. search needs)
     returns
     returns-2
     returns-3)

@@ -1,11 +1,8 @@
 use borrow.Author.Tests.{lt-ltb, le-ltb}
 use Rattle.rules.specs.Coding.{graphic}
 use borrow.Author.Needs.{needs}
-use Rattle.coding.proofs.sequences.pdi.Statement.{statement}
-use Rattle.coding.proofs.sequences.pdi.Tie as tie
-
-act-requires : tie.Need-act-requires
-act-requires c κs = search needs
+use Rattle.coding.proofs.characters.pdi.Statement.{statement}
+use Rattle.coding.proofs.characters.pdi.Tie as tie
 
 returns : tie.Need-returns
 unfolding graphic
@@ -13,9 +10,6 @@ returns c =
     let if1· = c .before .if1 in
     let act· = c .act in
     λ f st. rw (lt-ltb _ _ (if1· .taken)) (act· .ensures f st)
-
-act-requires-2 : tie.Need-act-requires-2
-act-requires-2 c κs = search needs
 
 returns-2 : tie.Need-returns-2
 unfolding graphic
@@ -25,4 +19,4 @@ returns-2 c =
     λ f st. rw (le-ltb _ _ (if1· .left)) (act2· .ensures f st)
 
 pub pdi-spec : {M : Type 1} → statement M
-pdi-spec = tie.close (tie.spec act-requires returns act-requires-2 returns-2)
+pdi-spec = tie.close (tie.spec (λ c κs. search needs) returns (λ c κs. search needs) returns-2)

@@ -1,49 +1,7 @@
 use Rattle.rules.specs.Coding.{escape}
 use borrow.Author.Needs.{needs}
-use Rattle.coding.proofs.sequences.escape.Statement.{statement}
-use Rattle.coding.proofs.sequences.escape.Tie as tie
-
-enum-told : tie.Need-enum-told
-enum-told c = search needs
-
-wait-for-requires : tie.Need-wait-for-requires
-wait-for-requires c κs = search needs
-
-enum-told-2 : tie.Need-enum-told-2
-enum-told-2 c = search needs
-
-refuse-requires : tie.Need-refuse-requires
-refuse-requires c κs = search needs
-
-enum-told-3 : tie.Need-enum-told-3
-enum-told-3 c = search needs
-
-in-use-requires : tie.Need-in-use-requires
-in-use-requires c κs = search needs
-
-act-requires : tie.Need-act-requires
-act-requires c κs = search needs
-
-enum-told-4 : tie.Need-enum-told-4
-enum-told-4 c = search needs
-
-in-use-requires-2 : tie.Need-in-use-requires-2
-in-use-requires-2 c κs = search needs
-
-act-requires-2 : tie.Need-act-requires-2
-act-requires-2 c κs = search needs
-
-enum-told-5 : tie.Need-enum-told-5
-enum-told-5 c = search needs
-
-act-requires-3 : tie.Need-act-requires-3
-act-requires-3 c κs = search needs
-
-enum-told-6 : tie.Need-enum-told-6
-enum-told-6 c = search needs
-
-act-requires-4 : tie.Need-act-requires-4
-act-requires-4 c κs = search needs
+use Rattle.coding.proofs.escapes.escape.Statement.{statement}
+use Rattle.coding.proofs.escapes.escape.Tie as tie
 
 returns : tie.Need-returns
 unfolding escape
@@ -93,20 +51,20 @@ pub escape-spec : {M : Type 1} → statement M
 escape-spec =
     tie.close
     (tie.spec
-    enum-told
-    wait-for-requires
-    enum-told-2
-    refuse-requires
-    enum-told-3
-    in-use-requires
-    act-requires
-    enum-told-4
-    in-use-requires-2
-    act-requires-2
-    enum-told-5
-    act-requires-3
-    enum-told-6
-    act-requires-4
+    (λ c. search needs)
+    (λ c κs. search needs)
+    (λ c. search needs)
+    (λ c κs. search needs)
+    (λ c. search needs)
+    (λ c κs. search needs)
+    (λ c κs. search needs)
+    (λ c. search needs)
+    (λ c κs. search needs)
+    (λ c κs. search needs)
+    (λ c. search needs)
+    (λ c κs. search needs)
+    (λ c. search needs)
+    (λ c κs. search needs)
     returns
     returns-2
     returns-3

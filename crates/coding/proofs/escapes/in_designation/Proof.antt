@@ -1,31 +1,7 @@
 use Rattle.rules.specs.Coding.{reactTo}
 use borrow.Author.Needs.{needs}
-use Rattle.coding.proofs.sequences.in_designation.Statement.{statement}
-use Rattle.coding.proofs.sequences.in_designation.Tie as tie
-
-class-of-requires : tie.Need-class-of-requires
-class-of-requires c κs = search needs
-
-enum-known-k : tie.Need-enum-known-k
-enum-known-k c = search needs
-
-control-requires : tie.Need-control-requires
-control-requires c κs = search needs
-
-enum-told : tie.Need-enum-told
-enum-told c = search needs
-
-wait-for-requires : tie.Need-wait-for-requires
-wait-for-requires c κs = search needs
-
-enum-told-2 : tie.Need-enum-told-2
-enum-told-2 c = search needs
-
-designated-by-requires : tie.Need-designated-by-requires
-designated-by-requires c κs = search needs
-
-designation-requires : tie.Need-designation-requires
-designation-requires c κs = search needs
+use Rattle.coding.proofs.escapes.in_designation.Statement.{statement}
+use Rattle.coding.proofs.escapes.in_designation.Tie as tie
 
 returns : tie.Need-returns
 unfolding reactTo
@@ -56,14 +32,14 @@ pub in-designation-spec : {M : Type 1} → statement M
 in-designation-spec =
     tie.close
     (tie.spec
-    class-of-requires
-    enum-known-k
-    control-requires
-    enum-told
-    wait-for-requires
-    enum-told-2
-    designated-by-requires
-    designation-requires
+    (λ c κs. search needs)
+    (λ c. search needs)
+    (λ c κs. search needs)
+    (λ c. search needs)
+    (λ c κs. search needs)
+    (λ c. search needs)
+    (λ c κs. search needs)
+    (λ c κs. search needs)
     returns
     returns-2
     returns-3)

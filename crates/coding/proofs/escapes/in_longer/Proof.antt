@@ -1,28 +1,7 @@
 use Rattle.rules.specs.Coding.{reactTo}
 use borrow.Author.Needs.{needs}
-use Rattle.coding.proofs.sequences.in_longer.Statement.{statement}
-use Rattle.coding.proofs.sequences.in_longer.Tie as tie
-
-class-of-requires : tie.Need-class-of-requires
-class-of-requires c κs = search needs
-
-enum-known-k : tie.Need-enum-known-k
-enum-known-k c = search needs
-
-control-requires : tie.Need-control-requires
-control-requires c κs = search needs
-
-enum-told : tie.Need-enum-told
-enum-told c = search needs
-
-wait-for-requires : tie.Need-wait-for-requires
-wait-for-requires c κs = search needs
-
-enum-told-2 : tie.Need-enum-told-2
-enum-told-2 c = search needs
-
-wait-for-requires-2 : tie.Need-wait-for-requires-2
-wait-for-requires-2 c κs = search needs
+use Rattle.coding.proofs.escapes.in_longer.Statement.{statement}
+use Rattle.coding.proofs.escapes.in_longer.Tie as tie
 
 returns : tie.Need-returns
 unfolding reactTo
@@ -52,13 +31,13 @@ pub in-longer-spec : {M : Type 1} → statement M
 in-longer-spec =
     tie.close
     (tie.spec
-    class-of-requires
-    enum-known-k
-    control-requires
-    enum-told
-    wait-for-requires
-    enum-told-2
-    wait-for-requires-2
+    (λ c κs. search needs)
+    (λ c. search needs)
+    (λ c κs. search needs)
+    (λ c. search needs)
+    (λ c κs. search needs)
+    (λ c. search needs)
+    (λ c κs. search needs)
     returns
     returns-2
     returns-3)

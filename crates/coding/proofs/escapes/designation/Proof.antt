@@ -1,22 +1,7 @@
 use Rattle.rules.specs.Coding.{designation}
 use borrow.Author.Needs.{needs}
-use Rattle.coding.proofs.sequences.designation.Statement.{statement}
-use Rattle.coding.proofs.sequences.designation.Tie as tie
-
-enum-told : tie.Need-enum-told
-enum-told c = search needs
-
-act-requires : tie.Need-act-requires
-act-requires c κs = search needs
-
-enum-known-designated : tie.Need-enum-known-designated
-enum-known-designated c = search needs
-
-designate-requires : tie.Need-designate-requires
-designate-requires c κs = search needs
-
-act-requires-2 : tie.Need-act-requires-2
-act-requires-2 c κs = search needs
+use Rattle.coding.proofs.escapes.designation.Statement.{statement}
+use Rattle.coding.proofs.escapes.designation.Tie as tie
 
 returns : tie.Need-returns
 unfolding designation
@@ -37,10 +22,10 @@ pub designation-spec : {M : Type 1} → statement M
 designation-spec =
     tie.close
     (tie.spec
-    enum-told
-    act-requires
-    enum-known-designated
-    designate-requires
-    act-requires-2
+    (λ c. search needs)
+    (λ c κs. search needs)
+    (λ c. search needs)
+    (λ c κs. search needs)
+    (λ c κs. search needs)
     returns
     returns-2)

@@ -1,28 +1,7 @@
 use Rattle.rules.specs.Coding.{graphic}
 use borrow.Author.Needs.{needs}
-use Rattle.coding.proofs.sequences.graphic.Statement.{statement}
-use Rattle.coding.proofs.sequences.graphic.Tie as tie
-
-enum-known-set : tie.Need-enum-known-set
-enum-known-set c = search needs
-
-character-requires : tie.Need-character-requires
-character-requires c κs = search needs
-
-act-requires : tie.Need-act-requires
-act-requires c κs = search needs
-
-enum-told : tie.Need-enum-told
-enum-told c = search needs
-
-pdi-requires : tie.Need-pdi-requires
-pdi-requires c κs = search needs
-
-enum-told-2 : tie.Need-enum-told-2
-enum-told-2 c = search needs
-
-call-requires : tie.Need-call-requires
-call-requires c κs = search needs
+use Rattle.coding.proofs.characters.graphic.Statement.{statement}
+use Rattle.coding.proofs.characters.graphic.Tie as tie
 
 returns : tie.Need-returns
 unfolding graphic
@@ -50,13 +29,13 @@ pub graphic-spec : {M : Type 1} → statement M
 graphic-spec =
     tie.close
     (tie.spec
-    enum-known-set
-    character-requires
-    act-requires
-    enum-told
-    pdi-requires
-    enum-told-2
-    call-requires
+    (λ c. search needs)
+    (λ c κs. search needs)
+    (λ c κs. search needs)
+    (λ c. search needs)
+    (λ c κs. search needs)
+    (λ c. search needs)
+    (λ c κs. search needs)
     returns
     returns-2
     returns-3)

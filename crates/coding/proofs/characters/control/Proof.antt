@@ -1,46 +1,7 @@
 use Rattle.rules.specs.Coding.{control}
 use borrow.Author.Needs.{needs}
-use Rattle.coding.proofs.sequences.control.Statement.{statement}
-use Rattle.coding.proofs.sequences.control.Tie as tie
-
-enum-told : tie.Need-enum-told
-enum-told c = search needs
-
-act-requires : tie.Need-act-requires
-act-requires c κs = search needs
-
-enum-known-k : tie.Need-enum-known-k
-enum-known-k c = search needs
-
-in-use-requires : tie.Need-in-use-requires
-in-use-requires c κs = search needs
-
-act-requires-2 : tie.Need-act-requires-2
-act-requires-2 c κs = search needs
-
-enum-known-k-2 : tie.Need-enum-known-k-2
-enum-known-k-2 c = search needs
-
-wait-for-requires : tie.Need-wait-for-requires
-wait-for-requires c κs = search needs
-
-enum-told-2 : tie.Need-enum-told-2
-enum-told-2 c = search needs
-
-wait-for-requires-2 : tie.Need-wait-for-requires-2
-wait-for-requires-2 c κs = search needs
-
-enum-told-3 : tie.Need-enum-told-3
-enum-told-3 c = search needs
-
-refuse-requires : tie.Need-refuse-requires
-refuse-requires c κs = search needs
-
-enum-told-4 : tie.Need-enum-told-4
-enum-told-4 c = search needs
-
-act-requires-3 : tie.Need-act-requires-3
-act-requires-3 c κs = search needs
+use Rattle.coding.proofs.characters.control.Statement.{statement}
+use Rattle.coding.proofs.characters.control.Tie as tie
 
 returns : tie.Need-returns
 unfolding control
@@ -89,19 +50,19 @@ pub control-spec : {M : Type 1} → statement M
 control-spec =
     tie.close
     (tie.spec
-    enum-told
-    act-requires
-    enum-known-k
-    in-use-requires
-    act-requires-2
-    enum-known-k-2
-    wait-for-requires
-    enum-told-2
-    wait-for-requires-2
-    enum-told-3
-    refuse-requires
-    enum-told-4
-    act-requires-3
+    (λ c. search needs)
+    (λ c κs. search needs)
+    (λ c. search needs)
+    (λ c κs. search needs)
+    (λ c κs. search needs)
+    (λ c. search needs)
+    (λ c κs. search needs)
+    (λ c. search needs)
+    (λ c κs. search needs)
+    (λ c. search needs)
+    (λ c κs. search needs)
+    (λ c. search needs)
+    (λ c κs. search needs)
     returns
     returns-2
     returns-3
