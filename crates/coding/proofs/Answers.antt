@@ -5,7 +5,7 @@ use mathlib.Core.List.{List}
 use Prim.Native.Nat.{ℕ}
 use Rattle.rules.specs.declared.Coding.{Coding}
 use Rattle.rules.specs.Coding.{Reaction, Refuse, Call, React}
-use Rattle.coding.specs.View.{effectOn, reactionOf, KeptBy, Kept}
+use Rattle.coding.specs.View.{codingOf, effectOn, reactionOf, KeptBy, Kept}
 use Rattle.coding.specs.declared.reactions.Effect.{Effect}
 use Rattle.coding.specs.declared.reactions.Effect.the-variants.{Refuses, Calls, Acts}
 use Rattle.coding.specs.declared.reactions.Reacted.{Reacted}
@@ -32,7 +32,9 @@ Answers r x f st f₁ st₁ = (reactionOf r f₁ st₁ ≡ x) × ((Kept r f f₁
 
 module _ (r : Reacted) (x : Reaction) where
   pub changed : (f st f₁ st₁ : List ℕ) → reactionOf r f₁ st₁ ≡ x → KeptIn x f f₁ → KeptIn x st st₁ → Answers r x f st f₁ st₁
-  changed f st f₁ st₁ e h k = (e, (kept-by (r .effect) _ st₁ f f₁ (rw (← e) at h), kept-by (r .effect) _ st₁ st st₁ (rw (← e) at k)))
+  changed f st f₁ st₁ e h k =
+      let by = kept-by (r .effect) (codingOf (r .sets) (r .waiting) f₁) st₁ in
+      (e, (by f f₁ (rw (← e) at h), by st st₁ (rw (← e) at k)))
 
   pub unchanged : (f st : List ℕ) → reactionOf r f st ≡ x → Answers r x f st f st
   unchanged f st e = (e, (same (r .effect) f, same (r .effect) st))

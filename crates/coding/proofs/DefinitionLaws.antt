@@ -43,7 +43,7 @@ module _ (c : Coding) (st : List ℕ) (b : ℕ) where
       by false = refl
 
 -- The old body is freed, or it is not
-module _ (c : Coding) (st st₁ : List ℕ) (name first : ℕ) (a : FreeAnswer) (r : Reacted) where
+module _ (a : FreeAnswer) (r : Reacted) (c : Coding) (st st₁ : List ℕ) (name first : ℕ) where
   opened : first ≡ firstOf (c .firsts) name → freeingOf a st₁ ≡ freeBody first st → openBody name c st ≡ named (freeingOf a st₁) name c
   unfolding openBody
   opened ef ea = rw (← ef, ← ea)
@@ -67,10 +67,10 @@ unfolding keep
 keep-keeps w (Done d) f st c lent left h = tt
 keep-keeps w (Refused x) f st c lent left h = h
 
-pub kept : (v : Definition → Waiting) (s : Sets) (w : Waiting) (a : StoreAnswer) (x : Storing) (r : Reacted) (f st f₁ st₁ : List ℕ)
+pub kept : (v : Definition → Waiting) (a : StoreAnswer) (r : Reacted) (s : Sets) (w : Waiting) (x : Storing) (f st f₁ st₁ : List ℕ)
     → storingOf a f₁ st₁ ≡ x → (StoreKept a f f₁) × (StoreKept a st st₁)
     → ((u : Waiting) (g h t : List ℕ) → reactionOf r g t ≡ keep v (storingOf a g t) (codingOf s u h))
     → Answers r (keep v x (codingOf s w f)) f st f₁ st₁
-kept v s w a x r f st f₁ st₁ e k h =
-    let c = codingOf s w f in
-    rw (← e) (changed r _ f st f₁ st₁ (h w f₁ f st₁) (keep-keeps v a f₁ st₁ c f f₁ (k .0)) (keep-keeps v a f₁ st₁ c st st₁ (k .1)))
+kept v a r s w x f st f₁ st₁ e k h =
+    let keeps = keep-keeps v a f₁ st₁ (codingOf s w f) in
+    rw (← e) (changed r _ f st f₁ st₁ (h w f₁ f st₁) (keeps f f₁ (k .0)) (keeps st st₁ (k .1)))

@@ -31,7 +31,7 @@ use Rattle.rules.specs.declared.Waiting.the-variants.{Nothing, Shifted, Escape,
 use Rattle.rules.specs.Store.{firstOf, Freeing, NotFreed, Freed, freeBody, Storing, NotStored, Stored, storeByte, storeEscapeAnd}
 use Rattle.rules.specs.Coding.{Reaction, Refuse, Call, React, setOf, shiftedTo, wait, named, openBody, keep, filling, inBody, innerOf, inBodyEscape, finalOf, escape, designatedBy, designation, control, graphic, classOf, reactTo, react}
 use Rattle.macros.specs.Lent.{IsName}
-use Rattle.coding.specs.View.{effectOn, reactionOf}
+use Rattle.coding.specs.View.{codingOf, effectOn, reactionOf}
 use Rattle.coding.specs.declared.reactions.Effect.{Effect}
 use Rattle.coding.specs.declared.reactions.Effect.the-variants.{Calls, Acts}
 use Rattle.coding.specs.declared.reactions.Reacted.{Reacted}
@@ -51,7 +51,8 @@ Graphic Above b = IsName b
 class-graphic : (b : ℕ) → b ≤ 127 → Graphic (classOf b) b
 unfolding classOf
 class-graphic b h =
-    pick-by (λ k. Graphic k b) (ltb b 32) (λ e. tt) (λ e. pick-all (λ k. Graphic k b) (ltb b 48) (ltb-false b 32 e, h) (ltb-false b 32 e, h))
+    pick-by (λ k. Graphic k b) (ltb b 32) (λ e. tt)
+    (λ e. pick-all (λ k. Graphic k b) (ltb b 48) (ltb-false b 32 e, h) (ltb-false b 32 e, h))
 
 module _ (c : Coding) (st : List ℕ) (b : ℕ) where
   control-told : (k : Control) → Told c st b (control k (wait Nothing c) st b)
@@ -131,18 +132,20 @@ module _ (c : Coding) (st : List ℕ) (b : ℕ) where
 
   pub told : Told c st b (react c st b)
   unfolding react
-  told = pick-by (Told c st b) (ltb 127 b) (λ e. tt) (λ e. waiting-told (c .waiting) (classOf b) (class-graphic b (ltb-false 127 b e)))
+  told =
+      pick-by (Told c st b) (ltb 127 b) (λ e. tt)
+      (λ e. waiting-told (c .waiting) (classOf b) (class-graphic b (ltb-false 127 b e)))
 
   -- The same of what the code answers
   module _ (r : Reacted) (f₁ st₁ : List ℕ) (e : reactionOf r f₁ st₁ ≡ react c st b) where
-    pub call-name : (n : ℕ) → r .effect ≡ Calls n → (n ≡ b) × (IsName n)
-    call-name n q = by (r .effect) _ (rw (← e) at told) q
+    told-by : (x : Effect) → r .effect ≡ x → Told c st b (effectOn x (codingOf (r .sets) (r .waiting) f₁) st₁)
+    told-by x q = by (r .effect) (codingOf (r .sets) (r .waiting) f₁) (rw (← e) at told) q
       where
-        by : (x : Effect) (c₁ : Coding) → Told c st b (effectOn x c₁ st₁) → x ≡ Calls n → (n ≡ b) × (IsName n)
-        by x c₁ h p = rw p at h
+        by : (y : Effect) (c₁ : Coding) → Told c st b (effectOn y c₁ st₁) → y ≡ x → Told c st b (effectOn x c₁ st₁)
+        by y c₁ h p = rw p at h
+
+    pub call-name : (n : ℕ) → r .effect ≡ Calls n → (n ≡ b) × (IsName n)
+    call-name n q = told-by (Calls n) q
 
     pub act-kept : (a : Action) → r .effect ≡ Acts a → ((f₁ ≡ c .firsts) × (st₁ ≡ st)) ⊎ (a ≡ Idle)
-    act-kept a q = by (r .effect) _ (rw (← e) at told) q
-      where
-        by : (x : Effect) (c₁ : Coding) → Told c st b (effectOn x c₁ st₁) → x ≡ Acts a → ((c₁ .firsts ≡ c .firsts) × (st₁ ≡ st)) ⊎ (a ≡ Idle)
-        by x c₁ h p = rw p at h
+    act-kept a q = told-by (Acts a) q

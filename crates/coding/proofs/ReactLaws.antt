@@ -31,7 +31,9 @@ use Rattle.coding.proofs.Answers.{Answers, unchanged}
 pub is-name : (d : Definition) → nameFits d ≡ true → IsName (d .name)
 unfolding nameFits
 is-name d h =
-    (leb-true 32 (d .name) (and-left (leb 32 (d .name)) (leb (d .name) 127) h), leb-true (d .name) 127 (and-right (leb 32 (d .name)) (leb (d .name) 127) h))
+    let least = leb 32 (d .name) in
+    let most = leb (d .name) 127 in
+    (leb-true 32 (d .name) (and-left least most h), leb-true (d .name) 127 (and-right least most h))
 
 -- What holds no definition is in range
 abbrev no-definition : List ℕ
@@ -69,7 +71,8 @@ module _ (s : Sets) (w : Waiting) (f st : List ℕ) (b : ℕ) (r : Reacted) wher
   over h e = rw (lt-ltb 127 b h) (unchanged r (Refuse ByteOver127) f st e)
 
   module _ (h : b ≤ 127) (v : Waiting) (e : w ≡ v) where
-    pub inside : (f₁ st₁ : List ℕ) → Answers r (reactTo v (classOf b) (codingOf s v f) st b) f st f₁ st₁ → Answers r (react (codingOf s w f) st b) f st f₁ st₁
+    pub inside : (f₁ st₁ : List ℕ) → Answers r (reactTo v (classOf b) (codingOf s v f) st b) f st f₁ st₁
+        → Answers r (react (codingOf s w f) st b) f st f₁ st₁
     unfolding react
     inside f₁ st₁ a = rw (le-ltb 127 b h, e) a
 

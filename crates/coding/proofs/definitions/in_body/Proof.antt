@@ -1,4 +1,3 @@
-use denote.Ref.{now}
 use borrow.Author.Tests.{eq-eqb, ne-eqb}
 use Rattle.rules.specs.declared.Waiting.the-variants.{Body}
 use Rattle.rules.specs.Coding.{inBody}
@@ -13,8 +12,7 @@ unfolding inBody
 returns c =
     let if1· = c .before .if1 in
     let wait-for· = c .wait-for in
-    let args· = c .before .before .before .args in
-    rw (eq-eqb _ _ (if1· .taken)) (unchanged (wait-for· .result) _ (now (args· .firsts)) (now (args· .store)) (wait-for· .ensures _ _))
+    rw (eq-eqb _ _ (if1· .taken)) (unchanged (wait-for· .result) _ _ _ (wait-for· .ensures _ _))
 
 returns-2 : tie.Need-returns-2
 unfolding inBody
@@ -22,8 +20,7 @@ returns-2 c =
     let if1· = c .before .before .before .before .before .before .if1 in
     let store-byte· = c .before .before .before .store-byte in
     let keep-body· = c .keep-body in
-    let args· = c .before .before .before .before .before .before .before .before .args in
-    rw (ne-eqb _ _ (if1· .left)) (kept Body _ _ (store-byte· .result) _ (keep-body· .result) (now (args· .firsts)) (now (args· .store)) (store-byte· .last .1 .0) (store-byte· .last .0) (store-byte· .ensures .0) (store-byte· .ensures .1) (keep-body· .ensures))
+    rw (ne-eqb _ _ (if1· .left)) (kept Body (store-byte· .result) (keep-body· .result) _ _ _ _ _ _ _ (store-byte· .ensures .0) (store-byte· .ensures .1) (keep-body· .ensures))
 
 pub in-body-spec : {M : Type 1} → statement M
 in-body-spec =

@@ -1,4 +1,3 @@
-use denote.Ref.{now}
 use Rattle.rules.specs.declared.Waiting.the-variants.{Body, BodyEscape}
 use Rattle.rules.specs.Coding.{inBodyEscape}
 use Rattle.coding.proofs.Answers.{unchanged}
@@ -13,8 +12,7 @@ returns c =
     let inner-of· = c .before .before .before .inner-of in
     let enum-told· = c .before .enum-told in
     let wait-for· = c .wait-for in
-    let args· = c .before .before .before .before .before .args in
-    rw (← inner-of· .ensures, enum-told· .given .1) (unchanged (wait-for· .result) _ (now (args· .firsts)) (now (args· .store)) (wait-for· .ensures _ _))
+    rw (← inner-of· .ensures, enum-told· .given .1) (unchanged (wait-for· .result) _ _ _ (wait-for· .ensures _ _))
 
 returns-2 : tie.Need-returns-2
 unfolding inBodyEscape
@@ -22,8 +20,7 @@ returns-2 c =
     let inner-of· = c .before .before .before .inner-of in
     let enum-told2· = c .before .enum-told2 in
     let refuse· = c .refuse in
-    let args· = c .before .before .before .before .before .args in
-    rw (← inner-of· .ensures, enum-told2· .given .1) (unchanged (refuse· .result) _ (now (args· .firsts)) (now (args· .store)) (refuse· .ensures _ _))
+    rw (← inner-of· .ensures, enum-told2· .given .1) (unchanged (refuse· .result) _ _ _ (refuse· .ensures _ _))
 
 returns-3 : tie.Need-returns-3
 unfolding inBodyEscape
@@ -31,8 +28,7 @@ returns-3 c =
     let inner-of· = c .before .before .before .inner-of in
     let enum-told3· = c .before .enum-told3 in
     let wait-for2· = c .wait-for2 in
-    let args· = c .before .before .before .before .before .args in
-    rw (← inner-of· .ensures, enum-told3· .given .1) (unchanged (wait-for2· .result) _ (now (args· .firsts)) (now (args· .store)) (wait-for2· .ensures _ _))
+    rw (← inner-of· .ensures, enum-told3· .given .1) (unchanged (wait-for2· .result) _ _ _ (wait-for2· .ensures _ _))
 
 returns-4 : tie.Need-returns-4
 unfolding inBodyEscape
@@ -41,8 +37,7 @@ returns-4 c =
     let enum-told4· = c .before .before .before .before .before .before .enum-told4 in
     let store-byte· = c .before .before .before .store-byte in
     let keep-escape· = c .keep-escape in
-    let args· = c .before .before .before .before .before .before .before .before .before .before .args in
-    rw (← inner-of· .ensures, enum-told4· .given .1) (kept BodyEscape _ _ (store-byte· .result) _ (keep-escape· .result) (now (args· .firsts)) (now (args· .store)) (store-byte· .last .1 .0) (store-byte· .last .0) (store-byte· .ensures .0) (store-byte· .ensures .1) (keep-escape· .ensures))
+    rw (← inner-of· .ensures, enum-told4· .given .1) (kept BodyEscape (store-byte· .result) (keep-escape· .result) _ _ _ _ _ _ _ (store-byte· .ensures .0) (store-byte· .ensures .1) (keep-escape· .ensures))
 
 returns-5 : tie.Need-returns-5
 unfolding inBodyEscape
@@ -51,8 +46,7 @@ returns-5 c =
     let enum-told5· = c .before .before .before .before .before .before .enum-told5 in
     let store-escape-and· = c .before .before .before .store-escape-and in
     let keep-body· = c .keep-body in
-    let args· = c .before .before .before .before .before .before .before .before .before .before .args in
-    rw (← inner-of· .ensures, enum-told5· .given .1) (kept Body _ _ (store-escape-and· .result) _ (keep-body· .result) (now (args· .firsts)) (now (args· .store)) (store-escape-and· .last .1 .0) (store-escape-and· .last .0) (store-escape-and· .ensures .0) (store-escape-and· .ensures .1) (keep-body· .ensures))
+    rw (← inner-of· .ensures, enum-told5· .given .1) (kept Body (store-escape-and· .result) (keep-body· .result) _ _ _ _ _ _ _ (store-escape-and· .ensures .0) (store-escape-and· .ensures .1) (keep-body· .ensures))
 
 pub in-body-escape-spec : {M : Type 1} → statement M
 in-body-escape-spec =

@@ -9,7 +9,7 @@ returns c =
     let refuse· = c .refuse in
     let first-of· = c .before .before .before .before .before .before .before .first-of in
     let refusal· = c .before .before .refusal in
-    open-refused _ _ (free-body· .last .0) _ _ (free-body· .result) (refuse· .result) (first-of· .ensures) (free-body· .ensures .0) _ (refusal· .given .1) (free-body· .ensures .1) (refuse· .ensures _ _)
+    open-refused (free-body· .result) (refuse· .result) _ _ _ _ _ (first-of· .ensures) (free-body· .ensures .0) _ (refusal· .given .1) (free-body· .ensures .1) (refuse· .ensures _ _)
 
 returns-2 : tie.Need-returns-2
 returns-2 c =
@@ -18,7 +18,7 @@ returns-2 c =
     let first-of· = c .before .before .before .before .before .before .before .before .first-of in
     let enum-told· = c .before .before .before .enum-told in
     let set-first· = c .before .set-first in
-    open-freed _ _ (free-body· .last .0) _ _ (free-body· .result) (wait-for· .result) (first-of· .ensures) (free-body· .ensures .0) _ (enum-told· .given .1) (set-first· .ensures) (wait-for· .ensures _ _)
+    open-freed (free-body· .result) (wait-for· .result) _ _ _ _ _ (first-of· .ensures) (free-body· .ensures .0) _ (enum-told· .given .1) (set-first· .ensures) (wait-for· .ensures _ _)
 
 pub open-body-spec : {M : Type 1} → statement M
 open-body-spec =

@@ -1,6 +1,4 @@
 use mathlib.Core.Path.{_∙_}
-use denote.Ref.{now}
-use mathlib.Core.Path.{_∙_, sym}
 use Rattle.coding.proofs.Answers.{unchanged}
 use Rattle.coding.proofs.DefinitionLaws.{name-below, name-above}
 use borrow.Author.Needs.{needs}
@@ -10,9 +8,8 @@ use Rattle.coding.proofs.definitions.take_name.Tie as tie
 returns : tie.Need-returns
 returns c =
     let refuse· = c .refuse in
-    let args· = c .before .before .before .args in
     let if1· = c .before .if1 in
-    unchanged (refuse· .result) _ (now (args· .firsts)) (now (args· .store)) (refuse· .ensures _ _ ∙ name-below _ _ _ (if1· .taken))
+    unchanged (refuse· .result) _ _ _ (refuse· .ensures _ _ ∙ name-below _ _ _ (if1· .taken))
 
 returns-2 : tie.Need-returns-2
 returns-2 c =
