@@ -2,7 +2,7 @@ use mathlib.Core.Path.{refl}
 use Prim.Native.Nat.{_-_}
 use borrow.Author.Needs.{needs}
 use Rattle.rules.specs.Drawing.{rows, rowOf, other}
-use Rattle.tables.proofs.Tables.{at, before, past}
+use Rattle.rules.proofs.Tables.{at, before, past}
 use Rattle.tables.proofs.opcodes.row_of.Statement.{statement}
 use Rattle.tables.proofs.opcodes.row_of.Tie as tie
 
