@@ -4,7 +4,7 @@ use borrow.Author.Tests.{lt-ltb, le-ltb}
 use Rattle.rules.specs.declared.Control.the-variants.{Ignored}
 use Rattle.rules.specs.declared.Class.the-variants.{Below}
 use Rattle.rules.specs.Coding.{controls, classOf}
-use Rattle.tables.proofs.Tables.{at}
+use Rattle.rules.proofs.Tables.{at}
 use Rattle.tables.proofs.controls.class_of.Statement.{statement}
 use Rattle.tables.proofs.controls.class_of.Tie as tie
 
