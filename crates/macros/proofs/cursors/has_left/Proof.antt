@@ -1,8 +1,8 @@
 use borrow.Author.Tests.{eq-eqb, ne-eqb, lt-ltb, le-ltb}
 use Rattle.rules.specs.Bodies.{hasLeft}
 use borrow.Author.Needs.{needs}
-use Rattle.macros.proofs.bodies.has_left.Statement.{statement}
-use Rattle.macros.proofs.bodies.has_left.Tie as tie
+use Rattle.macros.proofs.cursors.has_left.Statement.{statement}
+use Rattle.macros.proofs.cursors.has_left.Tie as tie
 
 count-of-requires : tie.Need-count-of-requires
 count-of-requires c κs = search needs

@@ -4,8 +4,8 @@ use borrow.Author.Tests.{lt-ltb, le-ltb, le-leb, lt-leb, not-true, not-false}
 use Rattle.rules.specs.Bodies.{readBody}
 use Rattle.macros.proofs.CellLaws.{good-most}
 use borrow.Author.Needs.{needs}
-use Rattle.macros.proofs.bodies.read_body.Statement.{statement}
-use Rattle.macros.proofs.bodies.read_body.Tie as tie
+use Rattle.macros.proofs.cursors.read_body.Statement.{statement}
+use Rattle.macros.proofs.cursors.read_body.Tie as tie
 
 count-of-requires : tie.Need-count-of-requires
 count-of-requires c κs = search needs

@@ -1,8 +1,8 @@
 use native.Mathlib.Numerals.{add-one}
 use Rattle.rules.specs.Bodies.{readCell}
 use borrow.Author.Needs.{needs}
-use Rattle.macros.proofs.bodies.read_cell.Statement.{statement}
-use Rattle.macros.proofs.bodies.read_cell.Tie as tie
+use Rattle.macros.proofs.cursors.read_cell.Statement.{statement}
+use Rattle.macros.proofs.cursors.read_cell.Tie as tie
 
 body-byte-requires : tie.Need-body-byte-requires
 body-byte-requires c κs = search needs
