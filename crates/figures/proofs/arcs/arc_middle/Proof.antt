@@ -1,6 +1,5 @@
 use Rattle.rules.specs.Drawing.{arcMiddle}
 use Rattle.figures.proofs.Carrying.{drawn-by}
-use borrow.Author.Needs.{needs}
 use Rattle.figures.proofs.arcs.arc_middle.Statement.{statement}
 use Rattle.figures.proofs.arcs.arc_middle.Tie as tie
 

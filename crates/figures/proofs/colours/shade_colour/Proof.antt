@@ -1,7 +1,6 @@
 use mathlib.Core.Path.{refl}
 use Rattle.rules.specs.Drawing.{shadeTo}
 use Rattle.figures.proofs.Carrying.{drawn-by}
-use borrow.Author.Needs.{needs}
 use Rattle.figures.proofs.colours.shade_colour.Statement.{statement}
 use Rattle.figures.proofs.colours.shade_colour.Tie as tie
 

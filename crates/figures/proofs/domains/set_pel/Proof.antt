@@ -1,6 +1,5 @@
 use mathlib.Core.Path.{refl}
 use Rattle.figures.proofs.Carrying.{drawn-by}
-use borrow.Author.Needs.{needs}
 use Rattle.figures.proofs.domains.set_pel.Statement.{statement}
 use Rattle.figures.proofs.domains.set_pel.Tie as tie
 

@@ -1,5 +1,4 @@
 use Rattle.figures.proofs.Carrying.{drawn-by}
-use borrow.Author.Needs.{needs}
 use Rattle.figures.proofs.points.move_to.Statement.{statement}
 use Rattle.figures.proofs.points.move_to.Tie as tie
 
