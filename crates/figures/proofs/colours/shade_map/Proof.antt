@@ -1,28 +1,22 @@
 use Rattle.rules.specs.Drawing.{shadeMap}
-use Rattle.figures.specs.Carried.{carry}
-use mathlib.Core.Path.{_∙_}
+use Rattle.figures.proofs.Carrying.{drawn-by}
 use borrow.Author.Needs.{needs}
 use Rattle.figures.proofs.colours.shade_map.Statement.{statement}
 use Rattle.figures.proofs.colours.shade_map.Tie as tie
 
 returns : tie.Need-returns
-unfolding shadeMap carry
+unfolding shadeMap
 returns c =
     let one-record· = c .before .before .one-record in
+    let put-hue· = c .before .before .before .before .before .before .before .before .put-hue in
     let figure· = c .before .before .before .before .figure in
-    one-record· .ensures _ ∙ rw (figure· .ensures)
+    drawn-by _ _ _ (one-record· .ensures _) (rw (put-hue· .ensures, figure· .ensures))
 
 pub shade-map-spec : {M : Type 1} → statement M
 shade-map-spec =
     tie.close
     (tie.spec
-    (λ c. search needs)
-    (λ c. search needs)
-    (λ c. search needs)
-    (λ c. search needs)
-    (λ c. search needs)
-    (λ c. search needs)
-    (λ c. search needs)
+    (λ c κs. search needs)
     (λ c. search needs)
     (λ c. search needs)
     (λ c. search needs)
