@@ -1,15 +1,15 @@
 -- Laws of storing a byte: the rule by its cases, and from what the calls hand back.
 -- Assumes nothing.
-use mathlib.Core.Path.{_≡_, refl}
-use mathlib.Core.Bool.{Bool, true, false}
+use mathlib.Core.Path.{_≡_}
+use mathlib.Core.Bool.{true, false}
 use mathlib.Core.List.{List}
 use Prim.Native.Nat.{ℕ, _+_, _<_, _≤_}
 use native.Mathlib.Numerals.{add-one}
 use borrow.Author.Tests.{eq-eqb, ne-eqb, lt-ltb, le-ltb}
-use lib.Dec.{eqb, ltb}
+use lib.Dec.{eqb}
 use Rattle.rules.specs.declared.Definition.{Definition}
 use Rattle.rules.specs.declared.Refusal.the-variants.{StoreFull, OutOfRange}
-use Rattle.rules.specs.Store.{nextOf, setNext, countOf, setCount, goodCount, setBodyByte, setFirst, Filling, Storing, NotStored, Stored, onStore, takeCell, linkCell, storeInNew, storeInLast, storeByte}
+use Rattle.rules.specs.Store.{nextOf, setNext, countOf, setCount, goodCount, setBodyByte, setFirst, Filling, NotStored, Stored, takeCell, linkCell, storeInNew, storeInLast, storeByte}
 use Rattle.rules.proofs.CodingRanges.{StoringKeeps, store-keeps}
 use Rattle.macros.specs.Storing.{fillingOf, storingOf}
 use Rattle.macros.specs.declared.definitions.StoreAnswer.{StoreAnswer}
