@@ -104,7 +104,7 @@ apply-most Background r bs d = none
 apply-most Shade r bs d = shade-most (d .look .colour .mode) _ _ _ d
 apply-most Dropped r bs d = none
 
-begun-most : (r : Row) (d : Drawing) → AtMost 1 (applyBegun r d)
+pub begun-most : (r : Row) (d : Drawing) → AtMost 1 (applyBegun r d)
 unfolding applyBegun
 begun-most r d =
     let o = apply (roleDue r d) r (begun (d .pen .operand)) d in
@@ -124,7 +124,7 @@ unfolding arcTo closingEdge
 finish-most x filled d =
     finish-all (AtMost 1) x filled d none one (pick-all (AtMost 1) (ltb 1 (d .command .vertices)) one none) none
 
-close-most : (d : Drawing) → AtMost 2 (close d)
+pub close-most : (d : Drawing) → AtMost 2 (close d)
 unfolding close complete
 close-most d =
     let r = rowOf (d .command .opcode) in

@@ -1,0 +1,6 @@
+pub mod Carrying
+pub mod Refusals
+pub mod RangeLaws
+pub mod OperandLaws
+pub mod ClosingLaws
+pub mod ActionLaws

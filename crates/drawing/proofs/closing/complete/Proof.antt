@@ -1,0 +1,32 @@
+use Rattle.drawing.proofs.ClosingLaws.{none-begun, some-begun}
+use Rattle.figures.specs.Carried.{carry}
+use Rattle.rules.specs.Drawing.{Outcome}
+use mathlib.Core.Path.{_≡_, refl, sym, ap, _∙_}
+use borrow.Author.Needs.{needs}
+use Rattle.drawing.proofs.closing.complete.Statement.{statement}
+use Rattle.drawing.proofs.closing.complete.Tie as tie
+
+no-record-requires : tie.Need-no-record-requires
+no-record-requires c κs = search needs
+
+returns : tie.Need-returns
+returns c =
+    let if1· = c .before .if1 in
+    let no-record· = c .no-record in
+    rw (none-begun _ _ (if1· .taken)) (no-record· .ensures _ _)
+
+apply-begun-requires : tie.Need-apply-begun-requires
+apply-begun-requires c κs = search needs
+
+same-length : tie.Need-same-length
+same-length c = search needs
+
+returns-2 : tie.Need-returns-2
+returns-2 c =
+    let if1· = c .before .before .before .before .before .if1 in
+    let apply-begun· = c .before .before .apply-begun in
+    rw (some-begun _ _ (if1· .left)) (apply-begun· .ensures)
+
+pub complete-spec : {M : Type 1} → statement M
+complete-spec =
+    tie.close (tie.spec no-record-requires returns apply-begun-requires same-length returns-2)
