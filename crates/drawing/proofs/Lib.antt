@@ -1,4 +1,3 @@
-pub mod Carrying
 pub mod Refusals
 pub mod RangeLaws
 pub mod OperandLaws

@@ -12,24 +12,40 @@ use Rattle.rules.specs.declared.Pen.{Pen}
 use Rattle.rules.specs.declared.Row.{Row}
 use Rattle.rules.specs.declared.Role.{Role}
 use Rattle.rules.specs.Operands.{begun}
-use Rattle.rules.specs.Drawing.{lengthOf, withPen, Outcome, Draw, apply, nextOperand, roleDue, applyBegun, withByte, takeByte, dataByte}
-use Rattle.rules.proofs.Bools.{pick-yes, pick-no}
+use Rattle.rules.specs.Drawing.{lengthOf, withPen, Outcome, Refuse, Draw, apply, nextOperand, roleDue, applyBegun, withByte, takeByte, dataByte}
+use Rattle.rules.proofs.Bools.{false-true, pick-yes, pick-no}
 use Rattle.figures.specs.Carried.{Carried, carry, drawingOf}
-use Rattle.drawing.proofs.Carrying.{refused-then, refused-from, drawn-from, drawn-then}
+use Rattle.figures.proofs.Carrying.{then-refused, then-drawn}
 
+-- The operand that is begun, applied with the answer x
 module _ (r : Row) (d : Drawing) (at : ℕ) (l : List ℕ) (n : Role) (x : Carried) (e : n ≡ roleDue r d) (a : x ≡ carry (apply n r (begun (d .pen .operand)) d) d at l) where
-  -- An operand that is refused
-  pub begun-refused : x .refused ≡ true → x ≡ carry (applyBegun r d) d at l
-  unfolding applyBegun
-  begun-refused h =
-      refused-then d at l x (apply (roleDue r d) r (begun (d .pen .operand)) d) _ (rw e at a) h
+  applied : Outcome
+  applied = apply (roleDue r d) r (begun (d .pen .operand)) d
 
-  -- An operand that is applied: the next one is due
+  pub begun-refused : x .refused ≡ true → x ≡ carry (applyBegun r d) d at l
+  unfolding applyBegun applied
+  begun-refused h = then-refused applied _ d at l x (rw e at a) h
+
+  -- The next one is due
   pub begun-drawn : (y : Carried) → at ≤ length l → x .refused ≡ false
       → y ≡ carry (Draw (nextOperand (r .pattern) (x .drawing)) []) (x .drawing) (x .at) (x .output) → y ≡ carry (applyBegun r d) d at l
-  unfolding applyBegun
-  begun-drawn y b h f =
-      f ∙ drawn-then d at l x (apply (roleDue r d) r (begun (d .pen .operand)) d) (λ k. Draw (nextOperand (r .pattern) k) []) b (rw e at a) h tt
+  unfolding applyBegun applied
+  begun-drawn y b h f = then-drawn applied _ d at l x y (rw e at a) h b tt f
+
+-- An outcome x that began with another state b
+module _ (b d : Drawing) (at : ℕ) (l : List ℕ) (x : Carried) where
+  -- A refusal leaves the state that is refused
+  refused-from : (o : Outcome) → x ≡ carry o b at l → x .refused ≡ true → b .map ≡ d .map
+      → record { refused = true; drawing = drawingOf (d .pen) (d .command) (d .look) (x .drawing .map); at = at; output = x .output } ≡ carry o d at l
+  unfolding carry
+  refused-from (Refuse r) e h m = rw (ap (λ (y : Carried). y .drawing .map) e ∙ m, ap (λ (y : Carried). y .output) e)
+  refused-from (Draw f rs) e h m = false-true (sym (ap (λ (y : Carried). y .refused) e) ∙ h)
+
+  -- What is drawn does not depend on it
+  drawn-from : (o : Outcome) → x ≡ carry o b at l → x .refused ≡ false → x ≡ carry o d at l
+  unfolding carry
+  drawn-from (Refuse r) e h = false-true (sym h ∙ ap (λ (y : Carried). y .refused) e)
+  drawn-from (Draw f rs) e h = e
 
 -- A byte for an operand of n bytes, joined to the pen p
 module _ (r : Row) (b : ℕ) (d : Drawing) (at : ℕ) (l : List ℕ) (x : Role) (n : ℕ) (e : x ≡ roleDue r d) (f : n ≡ lengthOf x (d .look .domain)) where
@@ -63,9 +79,9 @@ module _ (r : Row) (b : ℕ) (d : Drawing) (at : ℕ) (l : List ℕ) (x : Role) 
     pub last-refused : (y : Carried) → n ≤ p .operand .count → y ≡ carry (applyBegun r (withPen p d)) (withPen p d) at l → y .refused ≡ true
         → record { refused = true; drawing = drawingOf (d .pen) (d .command) (d .look) (y .drawing .map); at = at; output = y .output } ≡ carry (dataByte r b d) d at l
     last-refused y g a z =
-        refused-from d at l y (withPen p d) (applyBegun r (withPen p d)) a z refl ∙ ap (λ (o : Outcome). carry o d at l) (sym (data-last g))
+        refused-from (withPen p d) d at l y (applyBegun r (withPen p d)) a z refl ∙ ap (λ (o : Outcome). carry o d at l) (sym (data-last g))
 
     pub last-drawn : (y : Carried) → n ≤ p .operand .count → y ≡ carry (applyBegun r (withPen p d)) (withPen p d) at l → y .refused ≡ false
         → y ≡ carry (dataByte r b d) d at l
     last-drawn y g a z =
-        drawn-from d at l y (withPen p d) (applyBegun r (withPen p d)) a z ∙ ap (λ (o : Outcome). carry o d at l) (sym (data-last g))
+        drawn-from (withPen p d) d at l y (applyBegun r (withPen p d)) a z ∙ ap (λ (o : Outcome). carry o d at l) (sym (data-last g))

@@ -21,7 +21,7 @@ use Rattle.rules.specs.Drawing.{drawFigure, arcMiddle, arcTo, mostVertices, edg
 use Rattle.rules.specs.Drawing.{withByte, takeByte, dataByte, complete, closingEdge, finish, close, openCommand, act}
 use Rattle.rules.proofs.Bools.{pick-all}
 use Rattle.rules.proofs.DrawingRanges.{finish-all}
-use Rattle.drawing.proofs.Carrying.{Draws}
+use Rattle.figures.proofs.Carrying.{Draws}
 
 -- What it refuses with, if it does
 abbrev pub Vertices : Outcome → Type 0

@@ -2,10 +2,10 @@
 use crate::operands::apply_begun;
 use crate::operands::rested;
 use crate::operands::role_due;
-use crate::stub::ORIGIN;
-use crate::stub::arc_to;
-use crate::stub::closing_edge;
-use crate::stub::no_record;
+use figures::answers::ORIGIN;
+use figures::arcs::arc_to;
+use figures::polygons::closing_edge;
+use figures::answers::no_record;
 use figures::Drawn;
 use rules::Colour;
 use rules::Command;

@@ -2,8 +2,8 @@
 use crate::closing::close;
 use crate::closing::opened;
 use crate::operands::data_byte;
-use crate::stub::no_record;
-use crate::stub::one_record;
+use figures::answers::no_record;
+use figures::answers::one_record;
 use figures::Drawn;
 use records::mark;
 use records::set_number;
@@ -26,7 +26,6 @@ ghost use Rattle.figures.specs.Carried.{carryOut, drawingOf, carriedOf, DrawsBy
 pub mod closing;
 pub mod operands;
 pub mod ranges;
-mod stub;
 
 // Opens a command, with none open.
 fn open_command(

@@ -1,6 +1,6 @@
 // Operands: data bytes join the one that is due, and the last of them applies it.
-use crate::stub::apply;
-use crate::stub::no_record;
+use figures::apply;
+use figures::answers::no_record;
 use figures::Drawn;
 use rules::Command;
 use rules::Look;

@@ -1,6 +1,5 @@
-use Rattle.drawing.proofs.ClosingLaws.{complete-most, close-refused, close-drawn}
-use Rattle.drawing.proofs.Carrying.{place-most}
-use Rattle.figures.specs.Carried.{carry}
+use Rattle.figures.specs.Carried.{Carried, carry}
+use Rattle.drawing.proofs.ClosingLaws.{complete-place, close-refused, close-drawn}
 use native.Mathlib.Omega.{arith}
 use mathlib.Core.Path.{_≡_, refl, sym, ap, _∙_}
 use borrow.Author.Needs.{needs}
@@ -27,7 +26,7 @@ finish-requires : tie.Need-finish-requires
 finish-requires c κs =
     let pre· = c .before .before .before .before .before .before .before .before .before .pre in
     let complete· = c .before .before .before .before .before .complete in
-    omega (arith, pre· .1 .1 .1, place-most _ _ _ _ 1 _ (complete-most _ _) (complete· .ensures))
+    omega (arith, pre·, complete-place _ _ _ _ _ (complete· .ensures))
 
 rested-requires : tie.Need-rested-requires
 rested-requires c κs = search needs
@@ -55,7 +54,7 @@ returns-2 c =
     let if1· = c .before .before .before .before .before .before .before .before .if1 in
     let role-due· = c .before .before .before .before .before .before .before .role-due in
     let finish· = c .before .before .before .before .before .finish in
-    no-record· .ensures _ _ ∙ (simp (rested· .ensures, opened· .ensures) ∙ close-drawn _ _ _ _ _ (pre· .0) (complete· .ensures) _ _ (omega (arith, pre· .1 .1 .1)) (if1· .left) (role-due· .ensures) (omega (arith, pre· .1 .1 .1, place-most _ _ _ _ 1 _ (complete-most _ _) (complete· .ensures))) (finish· .ensures _))
+    (no-record· .ensures _ _ ∙ simp (rested· .ensures, opened· .ensures)) ∙ close-drawn _ _ _ _ _ (pre· .0) (complete· .ensures) _ _ (omega (arith, pre·)) (if1· .left) (role-due· .ensures) (finish· .ensures _)
 
 pub close-spec : {M : Type 1} → statement M
 close-spec =

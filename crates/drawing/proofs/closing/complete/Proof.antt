@@ -1,5 +1,5 @@
+use Rattle.figures.specs.Carried.{Carried, carry}
 use Rattle.drawing.proofs.ClosingLaws.{none-begun, some-begun}
-use Rattle.figures.specs.Carried.{carry}
 use Rattle.rules.specs.Drawing.{Outcome}
 use mathlib.Core.Path.{_≡_, refl, sym, ap, _∙_}
 use borrow.Author.Needs.{needs}
@@ -11,9 +11,9 @@ no-record-requires c κs = search needs
 
 returns : tie.Need-returns
 returns c =
-    let if1· = c .before .if1 in
     let no-record· = c .no-record in
-    rw (none-begun _ _ (if1· .taken)) (no-record· .ensures _ _)
+    let if1· = c .before .if1 in
+    no-record· .ensures _ _ ∙ none-begun _ _ _ _ (if1· .taken)
 
 apply-begun-requires : tie.Need-apply-begun-requires
 apply-begun-requires c κs = search needs
@@ -23,9 +23,9 @@ same-length c = search needs
 
 returns-2 : tie.Need-returns-2
 returns-2 c =
-    let if1· = c .before .before .before .before .before .if1 in
     let apply-begun· = c .before .before .apply-begun in
-    rw (some-begun _ _ (if1· .left)) (apply-begun· .ensures)
+    let if1· = c .before .before .before .before .before .if1 in
+    apply-begun· .ensures ∙ some-begun _ _ _ _ (if1· .left)
 
 pub complete-spec : {M : Type 1} → statement M
 complete-spec =

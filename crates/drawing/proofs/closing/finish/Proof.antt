@@ -1,5 +1,5 @@
+use Rattle.figures.specs.Carried.{Carried, carry}
 use Rattle.drawing.proofs.ClosingLaws.{finish-nothing}
-use Rattle.figures.specs.Carried.{carry}
 use Rattle.rules.specs.Drawing.{finish}
 use mathlib.Core.Path.{_≡_, refl, sym, ap, _∙_}
 use borrow.Author.Needs.{needs}
@@ -53,10 +53,10 @@ returns-2 c =
 returns-3 : tie.Need-returns-3
 unfolding finish carry
 returns-3 c =
+    let no-record· = c .no-record in
     let enum-told3· = c .before .before .enum-told3 in
     let direct· = c .before .direct in
-    let no-record· = c .no-record in
-    λ m. rw (enum-told3· .given .1) (rw (direct· .ensures) at (no-record· .ensures _ m))
+    λ m. no-record· .ensures _ m ∙ rw (enum-told3· .given .1, direct· .ensures)
 
 returns-4 : tie.Need-returns-4
 returns-4 c =

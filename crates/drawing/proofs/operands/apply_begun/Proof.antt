@@ -34,7 +34,7 @@ returns-2 c =
     let pre· = c .before .before .before .before .before .before .before .before .before .pre in
     let if1· = c .before .if1 in
     let next-operand· = c .next-operand in
-    begun-drawn _ _ _ _ _ _ (role-due· .ensures) (apply· .ensures) _ (omega (arith, pre· .1 .1)) (if1· .left) (next-operand· .ensures _ _)
+    begun-drawn _ _ _ _ _ _ (role-due· .ensures) (apply· .ensures) _ (omega (arith, pre·)) (if1· .left) (next-operand· .ensures _ _)
 
 pub apply-begun-spec : {M : Type 1} → statement M
 apply-begun-spec =
