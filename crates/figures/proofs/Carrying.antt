@@ -25,6 +25,11 @@ pub carry-one : (r : Record) (e d : Drawing) (at : ℕ) (out : List ℕ) → car
 unfolding carry bytesOfAll
 carry-one r e d at out = rw (append-nil, record-length)
 
+-- A rule's outcome by the state and the records that a function was handed
+pub drawn-by : {x : Carried} {e : Drawing} {rs : List Record} {o : Outcome} (d : Drawing) (at : ℕ) (out : List ℕ) → x ≡ carry (Draw e rs) e at out → o ≡ Draw e rs → x ≡ carry o d at out
+unfolding carry
+drawn-by d at out p q = p ∙ ap (λ (y : Outcome). carry y d at out) (sym q)
+
 -- Outcomes that are no refusals
 abbrev pub Draws : Outcome → Type 0
 Draws (Refuse r) = ⊥

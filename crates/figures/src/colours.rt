@@ -100,6 +100,27 @@ fn shade_map(
     one_record(record, pen, command, look, out, at)
 }
 
+// The mode is the look's own.
+fn shade_to(
+    mode: Mode,
+    hue: Hue,
+    pen: Pen,
+    command: Command,
+    look: Look,
+    map: &mut [u8; 48],
+    out: &mut [u8],
+    at: usize,
+) -> Drawn
+    requires { ⌜ (look .colour .foreground ≤ 15) × (at + 40 ≤ length (now out)) ⌝ }
+    ensures { λ r. ⌜ carriedOf r (now (map .exit)) (now (out .exit)) ≡ carryOut (shadeTo mode (hue .green) (hue .red) (hue .blue)) (drawingOf pen command look (now (map .entry))) at (now (out .entry)) ⌝ }
+{
+    match mode {
+        Mode::Direct => shade_colour(hue, pen, command, look, at),
+        Mode::Mapped => shade_map(hue, pen, command, look, map, out, at),
+        Mode::TwoColour => shade_map(hue, pen, command, look, map, out, at),
+    }
+}
+
 pub fn set_shade(
     pen: Pen,
     command: Command,
@@ -115,9 +136,5 @@ pub fn set_shade(
     let hue = hue_of(operand);
     let colour = look.colour;
     let mode = colour.mode;
-    match mode {
-        Mode::Direct => shade_colour(hue, pen, command, look, at),
-        Mode::Mapped => shade_map(hue, pen, command, look, map, out, at),
-        Mode::TwoColour => shade_map(hue, pen, command, look, map, out, at),
-    }
+    shade_to(mode, hue, pen, command, look, map, out, at)
 }

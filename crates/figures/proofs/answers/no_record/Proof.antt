@@ -1,5 +1,5 @@
-use Rattle.figures.proofs.Carrying.{carry-none}
 use mathlib.Core.Path.{sym}
+use Rattle.figures.proofs.Carrying.{carry-none}
 use Rattle.figures.proofs.answers.no_record.Statement.{statement}
 use Rattle.figures.proofs.answers.no_record.Tie as tie
 

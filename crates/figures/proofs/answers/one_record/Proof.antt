@@ -1,5 +1,5 @@
-use Rattle.figures.proofs.Carrying.{carry-one}
 use mathlib.Core.Path.{sym}
+use Rattle.figures.proofs.Carrying.{carry-one}
 use borrow.Author.Needs.{needs}
 use Rattle.figures.proofs.answers.one_record.Statement.{statement}
 use Rattle.figures.proofs.answers.one_record.Tie as tie

@@ -1,17 +1,16 @@
 use Rattle.rules.specs.Drawing.{arcMiddle}
-use Rattle.figures.specs.Carried.{carry}
-use mathlib.Core.Path.{_∙_}
+use Rattle.figures.proofs.Carrying.{drawn-by}
 use borrow.Author.Needs.{needs}
 use Rattle.figures.proofs.arcs.arc_middle.Statement.{statement}
 use Rattle.figures.proofs.arcs.arc_middle.Tie as tie
 
 returns : tie.Need-returns
-unfolding arcMiddle carry
+unfolding arcMiddle
 returns c =
     let no-record· = c .no-record in
     let moved· = c .before .moved in
     let displace· = c .before .before .before .displace in
-    λ out m. no-record· .ensures out m ∙ rw (moved· .ensures, displace· .ensures .0, displace· .ensures .1)
+    λ out m. drawn-by _ _ _ (no-record· .ensures out m) (rw (moved· .ensures, displace· .ensures .0, displace· .ensures .1))
 
 pub arc-middle-spec : {M : Type 1} → statement M
 arc-middle-spec =

@@ -1,15 +1,13 @@
-use Rattle.figures.specs.Carried.{carry}
-use mathlib.Core.Path.{_∙_}
+use Rattle.figures.proofs.Carrying.{drawn-by}
 use borrow.Author.Needs.{needs}
 use Rattle.figures.proofs.colours.set_background.Statement.{statement}
 use Rattle.figures.proofs.colours.set_background.Tie as tie
 
 returns : tie.Need-returns
-unfolding carry
 returns c =
     let no-record· = c .no-record in
     let address-of· = c .before .before .address-of in
-    λ out m. no-record· .ensures out m ∙ rw (address-of· .ensures)
+    λ out m. drawn-by _ _ _ (no-record· .ensures out m) (rw (address-of· .ensures))
 
 pub set-background-spec : {M : Type 1} → statement M
 set-background-spec =

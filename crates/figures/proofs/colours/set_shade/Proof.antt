@@ -1,47 +1,18 @@
-use Rattle.rules.specs.Drawing.{shadeTo}
-use Rattle.rules.specs.declared.Mode.the-variants.{Direct, Mapped, TwoColour}
-use Rattle.figures.proofs.Shading.{shaded}
 use borrow.Author.Needs.{needs}
 use Rattle.figures.proofs.colours.set_shade.Statement.{statement}
 use Rattle.figures.proofs.colours.set_shade.Tie as tie
 
 returns : tie.Need-returns
-unfolding shadeTo
 returns c =
-    let hue-of· = c .before .before .before .before .hue-of in
-    let enum-told· = c .before .enum-told in
-    let shade-colour· = c .shade-colour in
-    rw (← hue-of· .ensures .0, ← hue-of· .ensures .1, ← hue-of· .ensures .2) (shaded Direct _ _ _ _ _ _ (enum-told· .given .1) (shade-colour· .ensures _ _))
-
-returns-2 : tie.Need-returns-2
-unfolding shadeTo
-returns-2 c =
-    let hue-of· = c .before .before .before .before .before .before .before .before .hue-of in
-    let enum-told2· = c .before .before .before .before .before .enum-told2 in
-    let shade-map· = c .before .before .shade-map in
-    rw (← hue-of· .ensures .0, ← hue-of· .ensures .1, ← hue-of· .ensures .2) (shaded Mapped _ _ _ _ _ _ (enum-told2· .given .1) (shade-map· .ensures))
-
-returns-3 : tie.Need-returns-3
-unfolding shadeTo
-returns-3 c =
-    let hue-of· = c .before .before .before .before .before .before .before .before .hue-of in
-    let enum-told3· = c .before .before .before .before .before .enum-told3 in
-    let shade-map2· = c .before .before .shade-map2 in
-    rw (← hue-of· .ensures .0, ← hue-of· .ensures .1, ← hue-of· .ensures .2) (shaded TwoColour _ _ _ _ _ _ (enum-told3· .given .1) (shade-map2· .ensures))
+    let hue-of· = c .before .before .before .before .before .before .hue-of in
+    let shade-to· = c .before .before .shade-to in
+    rw (← hue-of· .ensures .0, ← hue-of· .ensures .1, ← hue-of· .ensures .2) (shade-to· .ensures)
 
 pub set-shade-spec : {M : Type 1} → statement M
 set-shade-spec =
     tie.close
     (tie.spec
     (λ c κs. tt)
-    (λ c. search needs)
-    (λ c κs. tt)
-    (λ c. search needs)
     (λ c κs. search needs)
     (λ c. search needs)
-    (λ c κs. search needs)
-    returns
-    (λ c. search needs)
-    returns-2
-    (λ c. search needs)
-    returns-3)
+    returns)

@@ -1,14 +1,15 @@
+use mathlib.Core.Path.{refl}
 use Rattle.rules.specs.Drawing.{shadeTo}
-use Rattle.figures.specs.Carried.{carry}
+use Rattle.figures.proofs.Carrying.{drawn-by}
 use borrow.Author.Needs.{needs}
 use Rattle.figures.proofs.colours.shade_colour.Statement.{statement}
 use Rattle.figures.proofs.colours.shade_colour.Tie as tie
 
 returns : tie.Need-returns
-unfolding shadeTo carry
+unfolding shadeTo
 returns c =
     let no-record· = c .no-record in
-    λ out m. no-record· .ensures out m
+    λ out m. drawn-by _ _ _ (no-record· .ensures out m) refl
 
 pub shade-colour-spec : {M : Type 1} → statement M
 shade-colour-spec =

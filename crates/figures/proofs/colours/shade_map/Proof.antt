@@ -1,16 +1,15 @@
 use Rattle.rules.specs.Drawing.{shadeMap}
-use Rattle.figures.specs.Carried.{carry}
-use mathlib.Core.Path.{_∙_}
+use Rattle.figures.proofs.Carrying.{drawn-by}
 use borrow.Author.Needs.{needs}
 use Rattle.figures.proofs.colours.shade_map.Statement.{statement}
 use Rattle.figures.proofs.colours.shade_map.Tie as tie
 
 returns : tie.Need-returns
-unfolding shadeMap carry
+unfolding shadeMap
 returns c =
     let one-record· = c .before .before .one-record in
     let figure· = c .before .before .before .before .figure in
-    one-record· .ensures _ ∙ rw (figure· .ensures)
+    drawn-by _ _ _ (one-record· .ensures _) (rw (figure· .ensures))
 
 pub shade-map-spec : {M : Type 1} → statement M
 shade-map-spec =

@@ -1,15 +1,13 @@
-use Rattle.figures.specs.Carried.{carry}
-use mathlib.Core.Path.{_∙_}
+use Rattle.figures.proofs.Carrying.{drawn-by}
 use borrow.Author.Needs.{needs}
 use Rattle.figures.proofs.polygons.start_at.Statement.{statement}
 use Rattle.figures.proofs.polygons.start_at.Tie as tie
 
 returns : tie.Need-returns
-unfolding carry
 returns c =
     let no-record· = c .no-record in
     let moved· = c .before .moved in
-    λ out m. no-record· .ensures out m ∙ rw (moved· .ensures)
+    λ out m. drawn-by _ _ _ (no-record· .ensures out m) (rw (moved· .ensures))
 
 pub start-at-spec : {M : Type 1} → statement M
 start-at-spec =
