@@ -1,11 +1,11 @@
 -- Data bytes and the operands they make, carried out.
 -- Assumes nothing.
 use Prim.Native.Nat.{ℕ, suc, _≤_, _<_}
-use mathlib.Core.Path.{_≡_, refl, sym, ap, _∙_}
+use mathlib.Core.Path.{_≡_, sym, ap, _∙_}
 use mathlib.Core.Bool.{true, false}
 use mathlib.Core.List.{List, []}
 use lib.ListN.{length}
-use lib.Dec.{ltb, eqb}
+use lib.Dec.{ltb}
 use borrow.Author.Tests.{eq-eqb, ne-eqb, lt-ltb, le-ltb}
 use Rattle.rules.specs.declared.Drawing.{Drawing}
 use Rattle.rules.specs.declared.Pen.{Pen}
@@ -32,22 +32,22 @@ module _ (r : Row) (d : Drawing) (at : ℕ) (l : List ℕ) (n : Role) (x : Carri
   unfolding applyBegun applied
   begun-drawn y b h f = then-drawn applied _ d at l x y (rw e at a) h b tt f
 
--- An outcome x that began with another state b
-module _ (b d : Drawing) (at : ℕ) (l : List ℕ) (x : Carried) where
-  -- A refusal leaves the state that is refused
-  refused-from : (o : Outcome) → x ≡ carry o b at l → x .refused ≡ true → b .map ≡ d .map
+-- An outcome carried out from the state with the pen p, its answer x
+module _ (p : Pen) (d : Drawing) (at : ℕ) (l : List ℕ) (x : Carried) where
+  -- A refusal leaves the pen
+  refused-from : (o : Outcome) → x ≡ carry o (withPen p d) at l → x .refused ≡ true
       → record { refused = true; drawing = drawingOf (d .pen) (d .command) (d .look) (x .drawing .map); at = at; output = x .output } ≡ carry o d at l
   unfolding carry
-  refused-from (Refuse r) e h m = rw (ap (λ (y : Carried). y .drawing .map) e ∙ m, ap (λ (y : Carried). y .output) e)
-  refused-from (Draw f rs) e h m = false-true (sym (ap (λ (y : Carried). y .refused) e) ∙ h)
+  refused-from (Refuse r) e h = rw (ap (λ (y : Carried). y .drawing .map) e, ap (λ (y : Carried). y .output) e)
+  refused-from (Draw f rs) e h = false-true (sym (ap (λ (y : Carried). y .refused) e) ∙ h)
 
   -- What is drawn does not depend on it
-  drawn-from : (o : Outcome) → x ≡ carry o b at l → x .refused ≡ false → x ≡ carry o d at l
+  drawn-from : (o : Outcome) → x ≡ carry o (withPen p d) at l → x .refused ≡ false → x ≡ carry o d at l
   unfolding carry
   drawn-from (Refuse r) e h = false-true (sym h ∙ ap (λ (y : Carried). y .refused) e)
   drawn-from (Draw f rs) e h = e
 
--- A byte for an operand of n bytes, joined to the pen p
+-- A byte for an operand of n bytes
 module _ (r : Row) (b : ℕ) (d : Drawing) (at : ℕ) (l : List ℕ) (x : Role) (n : ℕ) (e : x ≡ roleDue r d) (f : n ≡ lengthOf x (d .look .domain)) where
   data-due : dataByte r b d ≡ takeByte n r b d
   unfolding dataByte
@@ -58,6 +58,7 @@ module _ (r : Row) (b : ℕ) (d : Drawing) (at : ℕ) (l : List ℕ) (x : Role) 
   unfolding takeByte
   data-dropped h = ap (λ (o : Outcome). carry o d at l) (sym (data-due ∙ pick-yes _ _ (eq-eqb n 0 h)))
 
+  -- Joined to the operand of the pen p
   module _ (p : Pen) (j : p ≡ withByte b d .pen) (h : n ≡ 0 → ⊥) where
     count-joined : p .operand .count ≡ suc (d .pen .operand .count)
     count-joined = ap (λ (q : Pen). q .operand .count) j
@@ -79,9 +80,9 @@ module _ (r : Row) (b : ℕ) (d : Drawing) (at : ℕ) (l : List ℕ) (x : Role) 
     pub last-refused : (y : Carried) → n ≤ p .operand .count → y ≡ carry (applyBegun r (withPen p d)) (withPen p d) at l → y .refused ≡ true
         → record { refused = true; drawing = drawingOf (d .pen) (d .command) (d .look) (y .drawing .map); at = at; output = y .output } ≡ carry (dataByte r b d) d at l
     last-refused y g a z =
-        refused-from (withPen p d) d at l y (applyBegun r (withPen p d)) a z refl ∙ ap (λ (o : Outcome). carry o d at l) (sym (data-last g))
+        refused-from p d at l y (applyBegun r (withPen p d)) a z ∙ ap (λ (o : Outcome). carry o d at l) (sym (data-last g))
 
     pub last-drawn : (y : Carried) → n ≤ p .operand .count → y ≡ carry (applyBegun r (withPen p d)) (withPen p d) at l → y .refused ≡ false
         → y ≡ carry (dataByte r b d) d at l
     last-drawn y g a z =
-        drawn-from (withPen p d) d at l y (applyBegun r (withPen p d)) a z ∙ ap (λ (o : Outcome). carry o d at l) (sym (data-last g))
+        drawn-from p d at l y (applyBegun r (withPen p d)) a z ∙ ap (λ (o : Outcome). carry o d at l) (sym (data-last g))

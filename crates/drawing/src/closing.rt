@@ -2,11 +2,11 @@
 use crate::operands::apply_begun;
 use crate::operands::rested;
 use crate::operands::role_due;
+use figures::Drawn;
 use figures::answers::ORIGIN;
+use figures::answers::no_record;
 use figures::arcs::arc_to;
 use figures::polygons::closing_edge;
-use figures::answers::no_record;
-use figures::Drawn;
 use rules::Colour;
 use rules::Command;
 use rules::Due;
@@ -17,12 +17,10 @@ use rules::Point;
 use rules::Role;
 use rules::Row;
 ghost use mathlib.Core.Path.{_≡_};
-ghost use mathlib.Core.List.{[]};
 ghost use Prim.Native.Nat.{_+_, _≤_};
 ghost use lib.ListN.{length};
-ghost use Rattle.rules.specs.Record.{origin};
-ghost use Rattle.rules.specs.Drawing.{rowOf, withMode, withCommand, withOperand, noOperand, Draw, complete, finish, opened, close};
-ghost use Rattle.figures.specs.Carried.{carryOut, drawingOf, carriedOf, DrawsBy, ChangesBy};
+ghost use Rattle.rules.specs.Drawing.{rowOf, withMode, complete, finish, opened, close};
+ghost use Rattle.figures.specs.Carried.{carryOut, drawingOf, carriedOf, DrawsBy};
 
 // Bytes that have not come are zero bits.
 fn complete(
@@ -112,6 +110,14 @@ pub fn close(
         return done;
     }
     let role = role_due(row, done.command);
-    let done = finish(role, row.filled, done.pen, done.command, done.look, out, done.at);
+    let done = finish(
+        role,
+        row.filled,
+        done.pen,
+        done.command,
+        done.look,
+        out,
+        done.at,
+    );
     no_record(rested(done.pen), opened(0, ORIGIN), done.look, done.at)
 }

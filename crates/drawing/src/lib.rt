@@ -2,9 +2,9 @@
 use crate::closing::close;
 use crate::closing::opened;
 use crate::operands::data_byte;
+use figures::Drawn;
 use figures::answers::no_record;
 use figures::answers::one_record;
-use figures::Drawn;
 use records::mark;
 use records::set_number;
 use rules::Action;

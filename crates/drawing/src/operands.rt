@@ -1,7 +1,7 @@
 // Operands: data bytes join the one that is due, and the last of them applies it.
-use figures::apply;
-use figures::answers::no_record;
 use figures::Drawn;
+use figures::answers::no_record;
+use figures::apply;
 use rules::Command;
 use rules::Look;
 use rules::Operand;

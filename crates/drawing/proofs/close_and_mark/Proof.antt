@@ -1,5 +1,5 @@
 use Rattle.drawing.proofs.ActionLaws.{record-so}
-use mathlib.Core.Path.{_≡_, refl, sym, ap, _∙_}
+use mathlib.Core.Path.{_∙_}
 use Rattle.drawing.proofs.ClosingLaws.{close-place}
 use native.Mathlib.Omega.{arith}
 use Rattle.figures.proofs.Carrying.{then-refused, then-drawn}

@@ -1,7 +1,5 @@
-use Rattle.figures.specs.Carried.{Carried, carry}
 use Rattle.drawing.proofs.ClosingLaws.{none-begun, some-begun}
-use Rattle.rules.specs.Drawing.{Outcome}
-use mathlib.Core.Path.{_≡_, refl, sym, ap, _∙_}
+use mathlib.Core.Path.{_∙_}
 use borrow.Author.Needs.{needs}
 use Rattle.drawing.proofs.closing.complete.Statement.{statement}
 use Rattle.drawing.proofs.closing.complete.Tie as tie
