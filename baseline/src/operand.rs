@@ -1,0 +1,134 @@
+//! Operands: the bits of data bytes, gathered as they come.
+//!
+//! A point operand is gathered in one 64-bit word, x in the low half and y in
+//! the high half, each from the top down. A table gives the bits of one byte
+//! at the top of both halves; the byte's place shifts them down. Missing bytes
+//! are zero bits, so an operand cut short needs nothing done.
+
+/// Set in a table's entry for a byte that is no data; no data bit reaches it.
+const NO_DATA: u64 = 1;
+
+/// Whether a byte is of columns 4 to 7.
+#[inline]
+pub fn is_data(byte: u8) -> bool {
+    byte & 0xC0 == 0x40
+}
+
+const fn spread(axis_bits: u32) -> [u64; 256] {
+    let mut table = [NO_DATA; 256];
+    let mut byte = 0x40;
+    while byte < 0x80 {
+        let mask = (1 << axis_bits) - 1;
+        let x = (byte as u64 >> (6 - axis_bits)) & mask;
+        let y = (byte as u64 >> (6 - 2 * axis_bits)) & mask;
+        table[byte] = x << (32 - axis_bits) | y << (64 - axis_bits);
+        byte += 1;
+    }
+    table
+}
+
+static TWO_DIMENSIONS: [u64; 256] = spread(3);
+static THREE_DIMENSIONS: [u64; 256] = spread(2);
+
+/// How point operands are laid out.
+#[derive(Clone, Copy, Debug, PartialEq, Eq)]
+pub struct Layout {
+    /// Bytes of an operand, 1 to 8.
+    pub length: u8,
+    pub three_dimensions: bool,
+}
+
+impl Layout {
+    #[inline]
+    fn table(self) -> (&'static [u64; 256], u32) {
+        match self.three_dimensions {
+            false => (&TWO_DIMENSIONS, 3),
+            true => (&THREE_DIMENSIONS, 2),
+        }
+    }
+
+    /// The bits of the data byte that is at `place` of its operand.
+    #[inline]
+    pub fn bits(self, byte: u8, place: u8) -> u64 {
+        let (table, axis_bits) = self.table();
+        table[usize::from(byte)] >> (axis_bits * u32::from(place))
+    }
+
+    /// The operand in front of `bytes`, if it is there in one piece.
+    #[inline]
+    pub fn whole(self, bytes: &[u8]) -> Option<u64> {
+        let (table, axis_bits) = self.table();
+        match self.length {
+            1 => gather::<1>(bytes, table, axis_bits),
+            2 => gather::<2>(bytes, table, axis_bits),
+            3 => gather::<3>(bytes, table, axis_bits),
+            4 => gather::<4>(bytes, table, axis_bits),
+            5 => gather::<5>(bytes, table, axis_bits),
+            6 => gather::<6>(bytes, table, axis_bits),
+            7 => gather::<7>(bytes, table, axis_bits),
+            _ => gather::<8>(bytes, table, axis_bits),
+        }
+    }
+}
+
+/// Gathers N bytes, if all are data.
+#[inline]
+fn gather<const N: usize>(bytes: &[u8], table: &[u64; 256], axis_bits: u32) -> Option<u64> {
+    let bytes = bytes.first_chunk::<N>()?;
+    let mut operand = 0;
+    let mut marks = 0;
+    let mut shift = 0;
+    for &byte in bytes {
+        let bits = table[usize::from(byte)];
+        marks |= bits;
+        operand |= bits >> shift;
+        shift += axis_bits;
+    }
+    (marks & NO_DATA == 0).then_some(operand)
+}
+
+/// The bits of a SET COLOUR byte at `place` of its operand: G, R and B from
+/// the top of bytes 2, 1 and 0. Only the first four bytes reach them.
+#[inline]
+pub fn colour_bits(byte: u8, place: u8) -> u64 {
+    if place > 3 {
+        return 0;
+    }
+    let pair = |high: u8, low: u8| u64::from((byte >> high & 1) << 1 | (byte >> low & 1));
+    let spread = pair(5, 2) << 22 | pair(4, 1) << 14 | pair(3, 0) << 6;
+    spread >> (2 * place)
+}
+
+#[cfg(test)]
+mod tests {
+    use super::*;
+
+    #[test]
+    fn bits_of_two_dimensions() {
+        let layout = Layout {
+            length: 3,
+            three_dimensions: false,
+        };
+        let whole = layout.whole(&[81, 64, 64]);
+        assert_eq!(whole, Some(0x2000_0000_4000_0000));
+        assert_eq!(layout.whole(&[81, 64]), None);
+        assert_eq!(layout.whole(&[81, 64, 32]), None);
+        assert_eq!(layout.bits(81, 0), 0x2000_0000_4000_0000);
+    }
+
+    #[test]
+    fn the_mark_is_no_data_bit() {
+        for axis_bits in [2, 3] {
+            for byte in 0x40..0x80 {
+                assert_eq!(spread(axis_bits)[byte] >> (7 * axis_bits) & NO_DATA, 0);
+            }
+        }
+    }
+
+    #[test]
+    fn bits_of_a_colour() {
+        assert_eq!(colour_bits(0x40 | 0b100_100, 0), 0xC0_00_00);
+        assert_eq!(colour_bits(0x40 | 0b010_001, 1), 0x00_20_10);
+        assert_eq!(colour_bits(0x7F, 4), 0);
+    }
+}
