@@ -25,55 +25,90 @@ pub enum Role {
     Colour,
 }
 
+/// Operands that a pattern is written with, at most.
+const PATTERN: usize = 4;
+
 /// A row of the table: the roles of a command's operands in order.
 #[derive(Clone, Copy, Debug)]
 pub struct Row {
-    roles: &'static [Role],
-    /// The place in `roles` that follows the last.
-    again: u8,
+    roles: [Role; PATTERN],
+    /// For each role, the place in `roles` that follows it.
+    next: [u8; PATTERN],
     /// Flag 1 for a filled figure, else 0.
     pub filled: u8,
     /// Whether opening writes a record by itself.
     pub other: bool,
 }
 
-impl Row {
-    /// The role at a place of the pattern.
+/// A place in the pattern of an opcode.
+#[derive(Clone, Copy, Debug, PartialEq, Eq)]
+pub struct Place {
+    pub opcode: u8,
+    place: u8,
+}
+
+impl Place {
+    /// Where the pattern of an opcode starts.
     #[inline]
-    pub fn role(&self, place: u8) -> Role {
-        self.roles[usize::from(place)]
+    pub fn start(opcode: u8) -> Place {
+        Place { opcode, place: 0 }
     }
 
-    /// The place after `place`.
     #[inline]
-    pub fn after(&self, place: u8) -> u8 {
-        let next = place + 1;
-        if usize::from(next) < self.roles.len() {
-            next
-        } else {
-            self.again
+    pub fn row(self) -> &'static Row {
+        &ROWS[usize::from(self.opcode) % ROWS.len()]
+    }
+
+    #[inline]
+    pub fn role(self) -> Role {
+        self.row().roles[usize::from(self.place) % PATTERN]
+    }
+
+    /// The place of the next operand.
+    #[inline]
+    pub fn next(self) -> Place {
+        Place {
+            opcode: self.opcode,
+            place: self.row().next[usize::from(self.place) % PATTERN],
         }
+    }
+
+    #[inline]
+    pub fn is_start(self) -> bool {
+        self.place == 0
+    }
+}
+
+/// A pattern that goes on at place `again` after its last role.
+const fn pattern(given: &[Role], again: usize) -> Row {
+    let mut roles = [Role::Ignore; PATTERN];
+    let mut next = [0; PATTERN];
+    let mut place = 0;
+    while place < given.len() {
+        roles[place] = given[place];
+        next[place] = if place + 1 < given.len() {
+            place as u8 + 1
+        } else {
+            again as u8
+        };
+        place += 1;
+    }
+    Row {
+        roles,
+        next,
+        filled: 0,
+        other: false,
     }
 }
 
 /// A pattern that starts anew while data comes.
-const fn repeated(roles: &'static [Role]) -> Row {
-    Row {
-        roles,
-        again: 0,
-        filled: 0,
-        other: false,
-    }
+const fn repeated(roles: &[Role]) -> Row {
+    pattern(roles, 0)
 }
 
 /// A pattern whose last role stays.
-const fn once(roles: &'static [Role]) -> Row {
-    Row {
-        roles,
-        again: roles.len() as u8 - 1,
-        filled: 0,
-        other: false,
-    }
+const fn once(roles: &[Role]) -> Row {
+    pattern(roles, roles.len() - 1)
 }
 
 const fn filled(row: Row) -> Row {
@@ -84,10 +119,8 @@ const fn filled(row: Row) -> Row {
 }
 
 const OTHER: Row = Row {
-    roles: &[Role::Ignore],
-    again: 0,
-    filled: 0,
     other: true,
+    ..repeated(&[Role::Ignore])
 };
 
 /// SELECT COLOUR, which acts when closed without an operand.
@@ -131,9 +164,3 @@ pub static ROWS: [Row; 32] = {
         OTHER,
     ]
 };
-
-/// The row of an opcode.
-#[inline]
-pub fn row(opcode: u8) -> &'static Row {
-    &ROWS[usize::from(opcode & 31)]
-}

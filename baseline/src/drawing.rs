@@ -1,9 +1,9 @@
 //! The open command: its operands, what they draw, and its closing.
 
 use crate::colour::Colours;
-use crate::command::{row, Role, SELECT_COLOUR};
+use crate::command::{Place, Role, SELECT_COLOUR};
 use crate::operand::{colour_bits, is_data, Layout};
-use crate::record::{header, Kind, Output, Point, CLOSING, WRAPPED};
+use crate::record::{fill, header, Kind, Output, Point, CLOSING, WRAPPED};
 use crate::Number;
 
 /// Vertices of a polygon, its start included.
@@ -19,11 +19,10 @@ pub struct Drawing {
     single: u8,
     pel: Point,
     pub colours: Colours,
-    /// The open command, 2/0 to 3/15, or zero.
-    opcode: u8,
-    /// The place in the command's pattern, and the role there; `Ignore` with
-    /// no command open.
-    place: u8,
+    /// Whether a command is open, and the place in its pattern.
+    open: bool,
+    place: Place,
+    /// The role at that place; `Ignore` with no command open.
     role: Role,
     /// Bytes of the begun operand and their bits.
     begun: u8,
@@ -48,8 +47,8 @@ impl Drawing {
             single: 1,
             pel: Point::default(),
             colours: Colours::new(),
-            opcode: 0,
-            place: 0,
+            open: false,
+            place: Place::start(0),
             role: Role::Ignore,
             begun: 0,
             operand: 0,
@@ -61,19 +60,18 @@ impl Drawing {
     }
 
     pub fn is_open(&self) -> bool {
-        self.opcode != 0
+        self.open
     }
 
     /// Closes the open command and opens another.
     #[inline]
     pub fn open(&mut self, opcode: u8, output: &mut Output) -> Result<(), Number> {
         self.close(output)?;
-        let row = row(opcode);
-        self.opcode = opcode;
-        self.place = 0;
-        self.role = row.role(0);
+        self.open = true;
+        self.place = Place::start(opcode);
+        self.role = self.place.role();
         self.vertices = 0;
-        if row.other {
+        if self.place.row().other {
             self.write_code(Kind::Opcode, opcode, output);
         }
         Ok(())
@@ -83,7 +81,7 @@ impl Drawing {
     /// with zero bits and applies it, then ends the figure.
     #[inline]
     pub fn close(&mut self, output: &mut Output) -> Result<(), Number> {
-        if self.opcode == 0 {
+        if !self.open {
             return Ok(());
         }
         self.close_open(output)
@@ -99,13 +97,13 @@ impl Drawing {
         if self.role == Role::ArcEnd {
             self.finish_arc(self.start, self.wrapped, output);
         } else if self.role == Role::Edge && self.vertices > 0 {
-            let flags = CLOSING | row(self.opcode).filled;
+            let flags = CLOSING | self.filled();
             self.write(Kind::Edge, flags, [self.point, self.start], output);
             self.point = self.start;
-        } else if self.opcode == SELECT_COLOUR && self.place == 0 {
+        } else if self.place.opcode == SELECT_COLOUR && self.place.is_start() {
             self.colours.select_direct();
         }
-        self.opcode = 0;
+        self.open = false;
         self.role = Role::Ignore;
         Ok(())
     }
@@ -132,23 +130,121 @@ impl Drawing {
     /// Reads point operands while they come and there is room.
     fn points(&mut self, input: &mut &[u8], output: &mut Output) -> Result<(), Number> {
         loop {
-            match self.layout.whole(input) {
-                Some(operand) if self.begun == 0 && !self.at_vertex_limit() => {
-                    *input = &input[usize::from(self.layout.length)..];
-                    self.apply_point(Point::unpack(operand), output);
+            if self.begun == 0 {
+                self.whole_points(input, output);
+            }
+            // What is left: an operand that does not lie in one piece.
+            loop {
+                if !output.has_room() || self.role == Role::Ignore {
+                    return Ok(());
                 }
-                _ => match input.split_first() {
+                match input.split_first() {
                     Some((&byte, rest)) if is_data(byte) => {
                         self.point_byte(byte, output)?;
                         *input = rest;
                     }
                     _ => return Ok(()),
-                },
-            }
-            if !output.has_room() || self.role == Role::Ignore {
-                return Ok(());
+                }
+                if self.begun == 0 {
+                    break;
+                }
             }
         }
+    }
+
+    /// Reads the point operands that lie in one piece.
+    #[inline]
+    fn whole_points(&mut self, input: &mut &[u8], output: &mut Output) {
+        match self.layout.length {
+            1 => self.points_of::<1>(input, output),
+            2 => self.points_of::<2>(input, output),
+            3 => self.points_of::<3>(input, output),
+            4 => self.points_of::<4>(input, output),
+            5 => self.points_of::<5>(input, output),
+            6 => self.points_of::<6>(input, output),
+            7 => self.points_of::<7>(input, output),
+            _ => self.points_of::<8>(input, output),
+        }
+    }
+
+    /// Reads the operands of N bytes, those of one repeated role in a loop of
+    /// their own.
+    fn points_of<const N: usize>(&mut self, input: &mut &[u8], output: &mut Output) {
+        let operands = input.as_chunks::<N>().0;
+        let read = match self.role {
+            Role::MoveTo if self.repeats() => self.moves(false, operands),
+            Role::MoveBy => self.moves(true, operands),
+            Role::LineTo if self.repeats() => self.lines(false, operands, output),
+            Role::LineBy if self.repeats() => self.lines(true, operands, output),
+            _ => self.any_points(operands, output),
+        };
+        *input = &input[read * N..];
+    }
+
+    /// Moves, which need no room. Answers how many operands were read.
+    #[inline]
+    fn moves<const N: usize>(&mut self, relative: bool, operands: &[[u8; N]]) -> usize {
+        let (layout, mut point) = (self.layout, self.point);
+        let mut read = 0;
+        for bytes in operands {
+            let Some(operand) = layout.gather(bytes) else {
+                break;
+            };
+            point = point.base(relative).plus(Point::unpack(operand)).0;
+            read += 1;
+        }
+        self.point = point;
+        read
+    }
+
+    /// Lines, one a step while there is room.
+    #[inline]
+    fn lines<const N: usize>(
+        &mut self,
+        relative: bool,
+        operands: &[[u8; N]],
+        output: &mut Output,
+    ) -> usize {
+        let (layout, pel, mut point) = (self.layout, self.pel, self.point);
+        let line = header(Kind::Line, 0, self.colours.paint());
+        let mut read = 0;
+        for (slot, bytes) in output.slots().iter_mut().zip(operands) {
+            let Some(operand) = layout.gather(bytes) else {
+                break;
+            };
+            let (to, wrapped) = point.base(relative).plus(Point::unpack(operand));
+            let header = line | u64::from(wrapped_flag(wrapped)) << 8;
+            fill(slot, header, [point, to, Point::default()], pel);
+            point = to;
+            read += 1;
+        }
+        self.point = point;
+        output.advance(read);
+        read
+    }
+
+    /// Operands of any roles, while there is room.
+    #[inline]
+    fn any_points<const N: usize>(&mut self, operands: &[[u8; N]], output: &mut Output) -> usize {
+        let layout = self.layout;
+        let mut read = 0;
+        for bytes in operands {
+            let Some(operand) = layout.gather(bytes) else {
+                break;
+            };
+            if !output.has_room() || self.role == Role::Ignore || self.at_vertex_limit() {
+                break;
+            }
+            self.apply_point(Point::unpack(operand), output);
+            read += 1;
+        }
+        read
+    }
+
+    /// Whether the pattern is this one role.
+    #[inline]
+    fn repeats(&self) -> bool {
+        self.place.next() == self.place
     }
 
     /// One byte of a point operand that does not lie in one piece.
@@ -207,13 +303,18 @@ impl Drawing {
     /// Goes on to the next role of the pattern.
     #[inline]
     fn advance(&mut self) {
-        let row = row(self.opcode);
-        self.place = row.after(self.place);
-        self.role = row.role(self.place);
+        self.place = self.place.next();
+        self.role = self.place.role();
+    }
+
+    /// The fill flag of the open command.
+    #[inline]
+    fn filled(&self) -> u8 {
+        self.place.row().filled
     }
 
     /// Applies a point operand in its role and goes on to the next.
-    #[inline]
+    #[inline(never)]
     fn apply_point(&mut self, operand: Point, output: &mut Output) {
         let from = self.point;
         match self.role {
@@ -263,7 +364,7 @@ impl Drawing {
     }
 
     fn finish_arc(&mut self, end: Point, wrapped: bool, output: &mut Output) {
-        let flags = row(self.opcode).filled | wrapped_flag(wrapped);
+        let flags = self.filled() | wrapped_flag(wrapped);
         let header = header(Kind::Arc, flags, self.colours.paint());
         output.push(header, [self.start, self.middle, end], self.pel);
         self.point = end;
@@ -272,7 +373,7 @@ impl Drawing {
     fn rectangle(&mut self, by: Point, output: &mut Output) {
         let from = self.point;
         let (to, wrapped) = from.plus(by);
-        let flags = row(self.opcode).filled | wrapped_flag(wrapped);
+        let flags = self.filled() | wrapped_flag(wrapped);
         self.write(Kind::Rectangle, flags, [from, to], output);
         // The point moves by dx only.
         self.point.x = to.x;
@@ -285,7 +386,7 @@ impl Drawing {
             self.vertices = 1;
         }
         self.vertices += 1;
-        let flags = self.move_by(by) | row(self.opcode).filled;
+        let flags = self.move_by(by) | self.filled();
         self.write(Kind::Edge, flags, [from, self.point], output);
     }
 
@@ -330,7 +431,8 @@ impl Drawing {
         );
     }
 
-    /// Writes characters of a set while there is room; answers how many.
+    /// Writes characters of a set, one a step while there is room; answers
+    /// how many.
     #[inline]
     pub fn write_characters(
         &self,
@@ -339,7 +441,14 @@ impl Drawing {
         output: &mut Output,
     ) -> usize {
         let header = header(Kind::Character, 0, self.colours.paint()) | u64::from(set) << 48;
-        output.push_codes(header, self.point, self.pel, codes)
+        let points = [self.point, Point::default(), Point::default()];
+        let mut written = 0;
+        for (slot, code) in output.slots().iter_mut().zip(codes) {
+            fill(slot, header | u64::from(code) << 56, points, self.pel);
+            written += 1;
+        }
+        output.advance(written);
+        written
     }
 
     /// Writes one character in a step that has found room.

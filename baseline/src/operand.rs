@@ -5,7 +5,10 @@
 //! at the top of both halves; the byte's place shifts them down. Missing bytes
 //! are zero bits, so an operand cut short needs nothing done.
 
-/// Set in a table's entry for a byte that is no data; no data bit reaches it.
+/// The longest operand, in bytes.
+const LONGEST: usize = 8;
+
+/// Set in the table for a byte that is no data; no data bit reaches it.
 const NO_DATA: u64 = 1;
 
 /// Whether a byte is of columns 4 to 7.
@@ -14,21 +17,29 @@ pub fn is_data(byte: u8) -> bool {
     byte & 0xC0 == 0x40
 }
 
-const fn spread(axis_bits: u32) -> [u64; 256] {
-    let mut table = [NO_DATA; 256];
-    let mut byte = 0x40;
-    while byte < 0x80 {
-        let mask = (1 << axis_bits) - 1;
-        let x = (byte as u64 >> (6 - axis_bits)) & mask;
-        let y = (byte as u64 >> (6 - 2 * axis_bits)) & mask;
-        table[byte] = x << (32 - axis_bits) | y << (64 - axis_bits);
-        byte += 1;
+/// For each place in an operand the bits of each byte there.
+type Table = [[u64; 256]; LONGEST];
+
+const fn spread(axis_bits: usize) -> Table {
+    let mut table = [[NO_DATA; 256]; LONGEST];
+    let mask = (1 << axis_bits) - 1;
+    let mut place = 0;
+    while place < LONGEST {
+        let mut byte = 0x40;
+        while byte < 0x80 {
+            let x = (byte as u64 >> (6 - axis_bits)) & mask;
+            let y = (byte as u64 >> (6 - 2 * axis_bits)) & mask;
+            let top = x << (32 - axis_bits) | y << (64 - axis_bits);
+            table[place][byte] = top >> (axis_bits * place);
+            byte += 1;
+        }
+        place += 1;
     }
     table
 }
 
-static TWO_DIMENSIONS: [u64; 256] = spread(3);
-static THREE_DIMENSIONS: [u64; 256] = spread(2);
+static TWO_DIMENSIONS: Table = spread(3);
+static THREE_DIMENSIONS: Table = spread(2);
 
 /// How point operands are laid out.
 #[derive(Clone, Copy, Debug, PartialEq, Eq)]
@@ -40,51 +51,27 @@ pub struct Layout {
 
 impl Layout {
     #[inline]
-    fn table(self) -> (&'static [u64; 256], u32) {
+    fn table(self) -> &'static Table {
         match self.three_dimensions {
-            false => (&TWO_DIMENSIONS, 3),
-            true => (&THREE_DIMENSIONS, 2),
+            false => &TWO_DIMENSIONS,
+            true => &THREE_DIMENSIONS,
         }
     }
 
     /// The bits of the data byte that is at `place` of its operand.
     #[inline]
     pub fn bits(self, byte: u8, place: u8) -> u64 {
-        let (table, axis_bits) = self.table();
-        table[usize::from(byte)] >> (axis_bits * u32::from(place))
+        self.table()[usize::from(place) % LONGEST][usize::from(byte)]
     }
 
-    /// The operand in front of `bytes`, if it is there in one piece.
+    /// Gathers N bytes, if all are data.
     #[inline]
-    pub fn whole(self, bytes: &[u8]) -> Option<u64> {
-        let (table, axis_bits) = self.table();
-        match self.length {
-            1 => gather::<1>(bytes, table, axis_bits),
-            2 => gather::<2>(bytes, table, axis_bits),
-            3 => gather::<3>(bytes, table, axis_bits),
-            4 => gather::<4>(bytes, table, axis_bits),
-            5 => gather::<5>(bytes, table, axis_bits),
-            6 => gather::<6>(bytes, table, axis_bits),
-            7 => gather::<7>(bytes, table, axis_bits),
-            _ => gather::<8>(bytes, table, axis_bits),
-        }
+    pub fn gather<const N: usize>(self, bytes: &[u8; N]) -> Option<u64> {
+        const { assert!(N <= LONGEST) };
+        let bytes = bytes.iter().zip(self.table());
+        let operand = bytes.fold(0, |all, (&byte, bits)| all | bits[usize::from(byte)]);
+        (operand & NO_DATA == 0).then_some(operand)
     }
-}
-
-/// Gathers N bytes, if all are data.
-#[inline]
-fn gather<const N: usize>(bytes: &[u8], table: &[u64; 256], axis_bits: u32) -> Option<u64> {
-    let bytes = bytes.first_chunk::<N>()?;
-    let mut operand = 0;
-    let mut marks = 0;
-    let mut shift = 0;
-    for &byte in bytes {
-        let bits = table[usize::from(byte)];
-        marks |= bits;
-        operand |= bits >> shift;
-        shift += axis_bits;
-    }
-    (marks & NO_DATA == 0).then_some(operand)
 }
 
 /// The bits of a SET COLOUR byte at `place` of its operand: G, R and B from
@@ -109,18 +96,18 @@ mod tests {
             length: 3,
             three_dimensions: false,
         };
-        let whole = layout.whole(&[81, 64, 64]);
-        assert_eq!(whole, Some(0x2000_0000_4000_0000));
-        assert_eq!(layout.whole(&[81, 64]), None);
-        assert_eq!(layout.whole(&[81, 64, 32]), None);
+        let dot = Some(0x2000_0000_4000_0000);
+        assert_eq!(layout.gather(&[81, 64, 64]), dot);
+        assert_eq!(layout.gather(&[81, 64, 32]), None);
+        assert_eq!(layout.gather(&[81, 64, 192]), None);
         assert_eq!(layout.bits(81, 0), 0x2000_0000_4000_0000);
     }
 
     #[test]
     fn the_mark_is_no_data_bit() {
         for axis_bits in [2, 3] {
-            for byte in 0x40..0x80 {
-                assert_eq!(spread(axis_bits)[byte] >> (7 * axis_bits) & NO_DATA, 0);
+            for bits in spread(axis_bits) {
+                assert!(bits[0x40..0x80].iter().all(|bits| bits & NO_DATA == 0));
             }
         }
     }

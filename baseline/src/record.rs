@@ -44,6 +44,16 @@ impl Point {
         (Point { x, y }, over_x | over_y)
     }
 
+    /// What an operand counts from: the point if it is relative, else (0, 0).
+    #[inline]
+    pub fn base(self, relative: bool) -> Point {
+        if relative {
+            self
+        } else {
+            Point::default()
+        }
+    }
+
     /// Takes apart the packed form: x in the low half, y in the high half.
     #[inline]
     pub fn unpack(bits: u64) -> Point {
@@ -59,6 +69,9 @@ impl Point {
         u64::from(self.x as u32) | u64::from(self.y as u32) << 32
     }
 }
+
+/// The place of one record in the output.
+pub type Slot = [u8; RECORD];
 
 /// The caller's output buffer and how much of it is written.
 pub struct Output<'a> {
@@ -98,32 +111,23 @@ impl<'a> Output<'a> {
         self.written += RECORD;
     }
 
-    /// Writes records that differ in byte 7 only, one for each code that
-    /// `codes` gives, as long as there is room for a step before each.
-    /// Answers how many codes were used.
+    /// Slots for records that are written one a step, each while there is
+    /// room for a step; `advance` tells how many were filled.
     #[inline]
-    pub fn push_codes(
-        &mut self,
-        header: u64,
-        at: Point,
-        pel: Point,
-        codes: impl Iterator<Item = u8>,
-    ) -> usize {
+    pub fn slots(&mut self) -> &mut [Slot] {
         let steps = match self.free.len().checked_sub(ROOM) {
             Some(over) => over / RECORD + 1,
             None => 0,
         };
+        &mut self.free.as_chunks_mut().0[..steps]
+    }
+
+    /// Passes the slots that were filled.
+    #[inline]
+    pub fn advance(&mut self, filled: usize) {
         let free = std::mem::take(&mut self.free);
-        let mut used = 0;
-        let (slots, _) = free.as_chunks_mut::<RECORD>();
-        for (slot, code) in slots[..steps].iter_mut().zip(codes) {
-            let header = header | u64::from(code) << 56;
-            fill(slot, header, [at, Point::default(), Point::default()], pel);
-            used += 1;
-        }
-        self.free = &mut free[used * RECORD..];
-        self.written += used * RECORD;
-        used
+        self.free = &mut free[filled * RECORD..];
+        self.written += filled * RECORD;
     }
 }
 
@@ -134,8 +138,9 @@ pub fn header(kind: Kind, flags: u8, paint: u64) -> u64 {
     kind as u64 | u64::from(flags) << 8 | paint
 }
 
+/// Fills a slot with a record.
 #[inline]
-fn fill(slot: &mut [u8; RECORD], header: u64, points: [Point; 3], pel: Point) {
+pub fn fill(slot: &mut Slot, header: u64, points: [Point; 3], pel: Point) {
     let [a, b, c] = points;
     let words = [header, a.pack(), b.pack(), c.pack(), pel.pack()];
     let (fields, _) = slot.as_chunks_mut::<8>();
