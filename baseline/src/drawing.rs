@@ -3,7 +3,7 @@
 use crate::colour::Colours;
 use crate::command::{Place, Role, SELECT_COLOUR};
 use crate::operand::{colour_bits, is_data, Layout};
-use crate::record::{fill, header, Kind, Output, Point, CLOSING, WRAPPED};
+use crate::record::{fields, fill, header, Kind, Output, Point, CLOSING, WRAPPED};
 use crate::Number;
 
 /// Vertices of a polygon, its start included.
@@ -170,13 +170,13 @@ impl Drawing {
     /// Reads the operands of N bytes, those of one repeated role in a loop of
     /// their own.
     fn points_of<const N: usize>(&mut self, input: &mut &[u8], output: &mut Output) {
-        let operands = input.as_chunks::<N>().0;
+        let operands = || input.as_chunks::<N>().0;
         let read = match self.role {
-            Role::MoveTo if self.repeats() => self.moves(false, operands),
-            Role::MoveBy => self.moves(true, operands),
-            Role::LineTo if self.repeats() => self.lines(false, operands, output),
-            Role::LineBy if self.repeats() => self.lines(true, operands, output),
-            _ => self.any_points(operands, output),
+            Role::MoveTo if self.repeats() => self.moves(false, operands()),
+            Role::MoveBy => self.moves(true, operands()),
+            Role::LineTo if self.repeats() => self.lines(false, operands(), output),
+            Role::LineBy if self.repeats() => self.lines(true, operands(), output),
+            _ => return self.any_points::<N>(input, output),
         };
         *input = &input[read * N..];
     }
@@ -214,7 +214,7 @@ impl Drawing {
             };
             let (to, wrapped) = point.base(relative).plus(Point::unpack(operand));
             let header = line | u64::from(wrapped_flag(wrapped)) << 8;
-            fill(slot, header, [point, to, Point::default()], pel);
+            fill(slot, header, &fields([point, to, Point::default()], pel));
             point = to;
             read += 1;
         }
@@ -225,20 +225,18 @@ impl Drawing {
 
     /// Operands of any roles, while there is room.
     #[inline]
-    fn any_points<const N: usize>(&mut self, operands: &[[u8; N]], output: &mut Output) -> usize {
+    fn any_points<const N: usize>(&mut self, input: &mut &[u8], output: &mut Output) {
         let layout = self.layout;
-        let mut read = 0;
-        for bytes in operands {
+        while let Some((bytes, rest)) = input.split_first_chunk::<N>() {
             let Some(operand) = layout.gather(bytes) else {
-                break;
+                return;
             };
             if !output.has_room() || self.role == Role::Ignore || self.at_vertex_limit() {
-                break;
+                return;
             }
             self.apply_point(Point::unpack(operand), output);
-            read += 1;
+            *input = rest;
         }
-        read
     }
 
     /// Whether the pattern is this one role.
@@ -431,20 +429,19 @@ impl Drawing {
         );
     }
 
-    /// Writes characters of a set, one a step while there is room; answers
-    /// how many.
+    /// Writes the characters of a set in front of `codes`, one a step while
+    /// there is room; answers how many. `past` is the code past the last.
     #[inline]
-    pub fn write_characters(
-        &self,
-        set: u8,
-        codes: impl Iterator<Item = u8>,
-        output: &mut Output,
-    ) -> usize {
+    pub fn write_characters(&self, set: u8, past: u8, codes: &[u8], output: &mut Output) -> usize {
         let header = header(Kind::Character, 0, self.colours.paint()) | u64::from(set) << 48;
         let points = [self.point, Point::default(), Point::default()];
+        let fields = fields(points, self.pel);
         let mut written = 0;
-        for (slot, code) in output.slots().iter_mut().zip(codes) {
-            fill(slot, header | u64::from(code) << 56, points, self.pel);
+        for (slot, &code) in output.slots().iter_mut().zip(codes) {
+            if !(0x20..past).contains(&code) {
+                break;
+            }
+            fill(slot, header | u64::from(code) << 56, &fields);
             written += 1;
         }
         output.advance(written);

@@ -3,6 +3,9 @@
 /// Bytes of a record.
 pub const RECORD: usize = 40;
 
+const HEADER: usize = 8;
+const FIELDS: usize = RECORD - HEADER;
+
 /// Bytes that have to be free before a step: three records.
 pub const ROOM: usize = 3 * RECORD;
 
@@ -106,7 +109,7 @@ impl<'a> Output<'a> {
         let (slot, free) = free
             .split_first_chunk_mut::<RECORD>()
             .expect("a step finds room for three records");
-        fill(slot, header, points, pel);
+        fill(slot, header, &fields(points, pel));
         self.free = free;
         self.written += RECORD;
     }
@@ -138,13 +141,21 @@ pub fn header(kind: Kind, flags: u8, paint: u64) -> u64 {
     kind as u64 | u64::from(flags) << 8 | paint
 }
 
+/// The bytes of a record after its header.
+#[inline]
+pub fn fields(points: [Point; 3], pel: Point) -> [u8; FIELDS] {
+    let [a, b, c] = points;
+    let mut bytes = [0; FIELDS];
+    let (words, _) = bytes.as_chunks_mut::<8>();
+    for (word, point) in words.iter_mut().zip([a, b, c, pel]) {
+        *word = point.pack().to_le_bytes();
+    }
+    bytes
+}
+
 /// Fills a slot with a record.
 #[inline]
-pub fn fill(slot: &mut Slot, header: u64, points: [Point; 3], pel: Point) {
-    let [a, b, c] = points;
-    let words = [header, a.pack(), b.pack(), c.pack(), pel.pack()];
-    let (fields, _) = slot.as_chunks_mut::<8>();
-    for (field, word) in fields.iter_mut().zip(words) {
-        *field = word.to_le_bytes();
-    }
+pub fn fill(slot: &mut Slot, header: u64, fields: &[u8; FIELDS]) {
+    slot[..HEADER].copy_from_slice(&header.to_le_bytes());
+    slot[HEADER..].copy_from_slice(fields);
 }

@@ -400,11 +400,9 @@ impl Session {
         self.drawing.close(output)?;
         self.drawing.write_character(set as u8, first, output);
         *input = &input[1..];
-        let more = input
-            .iter()
-            .copied()
-            .take_while(|byte| (0x20..past).contains(byte));
-        let written = self.drawing.write_characters(set as u8, more, output);
+        let written = self
+            .drawing
+            .write_characters(set as u8, past, input, output);
         *input = &input[written..];
         Ok(())
     }
@@ -483,12 +481,14 @@ impl Session {
 
     /// Stores bytes up to an ESC or a byte over 127, as far as a cell goes.
     fn fill_run(&mut self, cells: &mut Cells, input: &[u8]) -> Result<usize, Number> {
-        let cell = &input[..input.len().min(usize::from(store::CELL_BODY))];
-        let run = cell
-            .iter()
-            .take_while(|&&byte| byte != ESC && byte < 128)
-            .count();
-        self.fill(|body| body.append_run(cells, &cell[..run]))
+        self.fill(|body| {
+            let room = body.room_for_run(cells)?;
+            let run = &input[..input.len().min(room)];
+            let end = run.iter().position(|&byte| byte == ESC || byte > 127);
+            let run = &run[..end.unwrap_or(run.len())];
+            body.append_run(cells, run);
+            Ok(run.len())
+        })
     }
 
     /// Changes the body being filled.

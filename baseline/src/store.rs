@@ -141,31 +141,32 @@ impl Filling {
         Ok(())
     }
 
-    /// Stores as many of `bytes` as the last cell has room for, at least one
-    /// if need be in a new cell. Answers how many.
-    pub fn append_run(&mut self, cells: &mut Cells, bytes: &[u8]) -> Result<usize, Number> {
-        let room = self.room(cells)?;
-        if room == 0 {
-            self.append(cells, &bytes[..1])?;
-            return Ok(1);
+    /// Bytes that can be stored in one cell: the last, or a new one if the
+    /// last is full.
+    pub fn room_for_run(self, cells: &Cells) -> Result<usize, Number> {
+        match self.room(cells)? {
+            0 if cells[0][0] == 0 => Err(Number::StoreFull),
+            0 => Ok(usize::from(CELL_BODY)),
+            room => Ok(room),
+        }
+    }
+
+    /// Stores bytes, one at least, for which there is room in one cell.
+    pub fn append_run(&mut self, cells: &mut Cells, bytes: &[u8]) {
+        let last = &cells[usize::from(self.last)];
+        let mut count = last[1];
+        if self.last == 0 || count == CELL_BODY {
+            self.take_cell(cells);
+            count = 0;
         }
         let cell = &mut cells[usize::from(self.last)];
-        let stored = room.min(bytes.len());
-        let from = 2 + usize::from(cell[1]);
-        cell[from..from + stored].copy_from_slice(&bytes[..stored]);
-        cell[1] += stored as u8;
-        Ok(stored)
+        let from = 2 + usize::from(count);
+        cell[from..from + bytes.len()].copy_from_slice(bytes);
+        cell[1] = count + bytes.len() as u8;
     }
 
     fn append_byte(&mut self, cells: &mut Cells, byte: u8) {
-        let last = usize::from(self.last);
-        if self.last == 0 || cells[last][1] >= CELL_BODY {
-            self.take_cell(cells);
-        } else {
-            cells[last][1] += 1;
-        }
-        let cell = &mut cells[usize::from(self.last)];
-        cell[1 + usize::from(cell[1])] = byte;
+        self.append_run(cells, &[byte]);
     }
 
     /// Takes a cell from the front of the free list; the links are changed in

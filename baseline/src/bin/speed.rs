@@ -18,9 +18,9 @@ fn main() -> ExitCode {
     let (Some(&(_, kind)), Ok(numbers)) = (kind, numbers) else {
         return usage();
     };
-    let (size, rounds) = match numbers.as_slice() {
-        &[size] => (size, 1),
-        &[size, rounds] => (size, rounds),
+    let (size, rounds) = match *numbers.as_slice() {
+        [size] => (size, 1),
+        [size, rounds] => (size, rounds),
         _ => return usage(),
     };
     let page = page(kind, size);
