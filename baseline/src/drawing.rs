@@ -170,44 +170,36 @@ impl Drawing {
     /// Reads the operands of N bytes, those of one repeated role in a loop of
     /// their own.
     fn points_of<const N: usize>(&mut self, input: &mut &[u8], output: &mut Output) {
-        let operands = || input.as_chunks::<N>().0;
-        let read = match self.role {
-            Role::MoveTo if self.repeats() => self.moves(false, operands()),
-            Role::MoveBy => self.moves(true, operands()),
-            Role::LineTo if self.repeats() => self.lines(false, operands(), output),
-            Role::LineBy if self.repeats() => self.lines(true, operands(), output),
-            _ => return self.any_points::<N>(input, output),
-        };
-        *input = &input[read * N..];
+        match self.role {
+            Role::MoveTo if self.repeats() => self.moves::<N>(false, input),
+            Role::MoveBy => self.moves::<N>(true, input),
+            Role::LineTo if self.repeats() => self.lines::<N>(false, input, output),
+            Role::LineBy if self.repeats() => self.lines::<N>(true, input, output),
+            _ => self.any_points::<N>(input, output),
+        }
     }
 
-    /// Moves, which need no room. Answers how many operands were read.
+    /// Moves, which need no room.
     #[inline]
-    fn moves<const N: usize>(&mut self, relative: bool, operands: &[[u8; N]]) -> usize {
+    fn moves<const N: usize>(&mut self, relative: bool, input: &mut &[u8]) {
         let (layout, mut point) = (self.layout, self.point);
-        let mut read = 0;
-        for bytes in operands {
+        while let Some((bytes, rest)) = input.split_first_chunk::<N>() {
             let Some(operand) = layout.gather(bytes) else {
                 break;
             };
             point = point.base(relative).plus(Point::unpack(operand)).0;
-            read += 1;
+            *input = rest;
         }
         self.point = point;
-        read
     }
 
     /// Lines, one a step while there is room.
     #[inline]
-    fn lines<const N: usize>(
-        &mut self,
-        relative: bool,
-        operands: &[[u8; N]],
-        output: &mut Output,
-    ) -> usize {
+    fn lines<const N: usize>(&mut self, relative: bool, input: &mut &[u8], output: &mut Output) {
         let (layout, pel, mut point) = (self.layout, self.pel, self.point);
         let line = header(Kind::Line, 0, self.colours.paint());
         let mut read = 0;
+        let operands = input.as_chunks::<N>().0;
         for (slot, bytes) in output.slots().iter_mut().zip(operands) {
             let Some(operand) = layout.gather(bytes) else {
                 break;
@@ -220,7 +212,7 @@ impl Drawing {
         }
         self.point = point;
         output.advance(read);
-        read
+        *input = &input[read * N..];
     }
 
     /// Operands of any roles, while there is room.

@@ -23,12 +23,14 @@ enum Status {
     Ended,
 }
 
-/// Why a run of steps paused without a refusal.
+/// What comes after a step that was accepted.
 enum Pause {
-    /// The input is used up, the room is, or a definition begins or ends.
-    Seek,
+    /// Nothing has changed for the next step.
+    Go,
     /// A macro name was read whose body starts in this cell.
     Call(u8),
+    /// A definition was opened.
+    Define,
 }
 
 /// A page being read.
@@ -276,43 +278,30 @@ impl Session {
             if !output.has_room() {
                 break;
             }
-            match self.coding {
-                _ if byte > 127 => return Err(Number::ByteOver127),
-                Coding::Plain if byte >= 0x20 => {
-                    let set = self.sets[usize::from(self.in_use)];
-                    let pause = self.graphic(set, input, output)?;
-                    if let Pause::Call(_) = pause {
-                        return Ok(pause);
+            let pause = match byte {
+                0x00..=0x1F => self.control(input, output)?,
+                0x20..=0x7F => match self.coding {
+                    Coding::Plain => {
+                        let set = self.sets[usize::from(self.in_use)];
+                        self.graphic(set, input, output)?
                     }
-                }
-                Coding::Shifted(g) if byte >= 0x20 => {
-                    let mut one = &input[..1];
-                    let pause = self.graphic(self.sets[usize::from(g)], &mut one, output)?;
-                    self.coding = Coding::Plain;
-                    *input = &input[1..];
-                    if let Pause::Call(_) = pause {
-                        return Ok(pause);
-                    }
-                }
-                Coding::Escape | Coding::Designate(_) if byte >= 0x20 => {
-                    self.escape(byte, from_body, output)?;
-                    *input = &input[1..];
-                    if self.coding == Coding::Name {
-                        break;
-                    }
-                }
-                _ => {
-                    self.control(byte, output)?;
-                    *input = &input[1..];
-                }
+                    Coding::Shifted(g) => self.shifted(g, input, output)?,
+                    _ => self.escape(input, from_body, output)?,
+                },
+                _ => return Err(Number::ByteOver127),
+            };
+            match pause {
+                Pause::Go => {}
+                pause => return Ok(pause),
             }
         }
-        Ok(Pause::Seek)
+        Ok(Pause::Go)
     }
 
     /// A byte of columns 0 and 1, which drops a pending shift or sequence.
     #[inline]
-    fn control(&mut self, byte: u8, output: &mut Output) -> Result<(), Number> {
+    fn control(&mut self, input: &mut &[u8], output: &mut Output) -> Result<Pause, Number> {
+        let byte = input[0];
         let mut coding = Coding::Plain;
         match CONTROLS[usize::from(byte & 31)] {
             Control::Nothing => {}
@@ -326,11 +315,28 @@ impl Session {
             }
         }
         self.coding = coding;
-        Ok(())
+        *input = &input[1..];
+        Ok(Pause::Go)
+    }
+
+    /// The byte after a single shift.
+    fn shifted(&mut self, g: G, input: &mut &[u8], output: &mut Output) -> Result<Pause, Number> {
+        let mut one = &input[..1];
+        let pause = self.graphic(self.sets[usize::from(g)], &mut one, output)?;
+        self.coding = Coding::Plain;
+        *input = &input[1..];
+        Ok(pause)
     }
 
     /// A byte of columns 2 to 7 in an escape sequence.
-    fn escape(&mut self, byte: u8, from_body: bool, output: &mut Output) -> Result<(), Number> {
+    fn escape(
+        &mut self,
+        input: &mut &[u8],
+        from_body: bool,
+        output: &mut Output,
+    ) -> Result<Pause, Number> {
+        let byte = input[0];
+        let mut pause = Pause::Go;
         self.coding = match (self.coding, byte) {
             (Coding::Escape, 0x20..=0x2F) => Coding::Designate(designated(byte)),
             (_, 0x20..=0x2F) => Coding::Designate(None),
@@ -342,7 +348,10 @@ impl Session {
             }
             _ => match two_byte_final(byte) {
                 Final::Define if from_body => return Err(Number::DefinitionInBody),
-                Final::Define => Coding::Name,
+                Final::Define => {
+                    pause = Pause::Define;
+                    Coding::Name
+                }
                 Final::Refused => return Err(Number::Unsupported),
                 Final::Close => {
                     self.drawing.close(output)?;
@@ -355,7 +364,8 @@ impl Session {
                 Final::Ignored => Coding::Plain,
             },
         };
-        Ok(())
+        *input = &input[1..];
+        Ok(pause)
     }
 
     /// Bytes of columns 2 to 7 read from a set, as far as they go on alike.
@@ -377,7 +387,7 @@ impl Session {
                 self.characters(set, input, output)?
             }
         }
-        Ok(Pause::Seek)
+        Ok(Pause::Go)
     }
 
     /// Characters of a set. The first closes the open command.
@@ -421,7 +431,7 @@ impl Session {
                 return Ok(Pause::Call(cell));
             }
         }
-        Ok(Pause::Seek)
+        Ok(Pause::Go)
     }
 
     /// Takes steps inside a definition; they are all read from the piece.
@@ -443,7 +453,7 @@ impl Session {
             }
             *input = &input[1..];
         }
-        Ok(Pause::Seek)
+        Ok(Pause::Go)
     }
 
     /// The name to be defined; its old body is freed.
