@@ -63,9 +63,26 @@ impl Drawing {
         self.open
     }
 
+    /// Reads opcodes and data from the front of the input, as far as they go
+    /// on and there is room.
+    pub fn commands(&mut self, input: &mut &[u8], output: &mut Output) -> Result<(), Number> {
+        while let Some(&byte @ 0x20..=0x7F) = input.first() {
+            if !output.has_room() {
+                break;
+            }
+            if is_data(byte) {
+                self.data(input, output)?;
+            } else {
+                self.open(byte, output)?;
+                *input = &input[1..];
+            }
+        }
+        Ok(())
+    }
+
     /// Closes the open command and opens another.
     #[inline]
-    pub fn open(&mut self, opcode: u8, output: &mut Output) -> Result<(), Number> {
+    fn open(&mut self, opcode: u8, output: &mut Output) -> Result<(), Number> {
         self.close(output)?;
         self.open = true;
         self.place = Place::start(opcode);
@@ -111,7 +128,7 @@ impl Drawing {
     /// Reads data bytes from the front of the input, as far as they go on and
     /// there is room; at least one if the input starts with data.
     #[inline]
-    pub fn data(&mut self, input: &mut &[u8], output: &mut Output) -> Result<(), Number> {
+    fn data(&mut self, input: &mut &[u8], output: &mut Output) -> Result<(), Number> {
         match self.role {
             Role::Ignore => {
                 let run = input.iter().take_while(|&&byte| is_data(byte)).count();
@@ -171,7 +188,7 @@ impl Drawing {
     /// their own.
     fn points_of<const N: usize>(&mut self, input: &mut &[u8], output: &mut Output) {
         match self.role {
-            Role::MoveTo if self.repeats() => self.moves::<N>(false, input),
+            Role::MoveTo => self.moves::<N>(false, input),
             Role::MoveBy => self.moves::<N>(true, input),
             Role::LineTo if self.repeats() => self.lines::<N>(false, input, output),
             Role::LineBy if self.repeats() => self.lines::<N>(true, input, output),
@@ -182,15 +199,16 @@ impl Drawing {
     /// Moves, which need no room.
     #[inline]
     fn moves<const N: usize>(&mut self, relative: bool, input: &mut &[u8]) {
-        let (layout, mut point) = (self.layout, self.point);
-        while let Some((bytes, rest)) = input.split_first_chunk::<N>() {
+        let (layout, mut point, mut rest) = (self.layout, self.point, *input);
+        while let Some((bytes, after)) = rest.split_first_chunk::<N>() {
             let Some(operand) = layout.gather(bytes) else {
                 break;
             };
             point = point.base(relative).plus(Point::unpack(operand)).0;
-            *input = rest;
+            rest = after;
         }
         self.point = point;
+        *input = rest;
     }
 
     /// Lines, one a step while there is room.
@@ -308,7 +326,7 @@ impl Drawing {
     fn apply_point(&mut self, operand: Point, output: &mut Output) {
         let from = self.point;
         match self.role {
-            Role::MoveTo => self.point = operand,
+            Role::Start | Role::MoveTo => self.point = operand,
             Role::MoveBy => self.point = from.plus(operand).0,
             Role::PointAt => {
                 self.point = operand;

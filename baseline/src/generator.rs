@@ -530,11 +530,14 @@ impl Generator {
         self.use_pdi();
         self.put(0x3E);
         let count = self.random.pick(&[0, 1, 1, 2, 2, 3]);
-        let cut = self.random.below(self.single);
+        let cut = self.random.pick(&[0, 0, self.single - 1]);
         self.data(count * self.single + cut);
     }
 
     fn set_colour(&mut self) {
+        if self.random.chance(40) {
+            self.select_colour();
+        }
         self.use_pdi();
         self.put(0x3C);
         let count = self.random.pick(&[0, 1, 1, 1, 2]);

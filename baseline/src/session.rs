@@ -377,11 +377,7 @@ impl Session {
         output: &mut Output,
     ) -> Result<Pause, Number> {
         match set {
-            Set::Pdi if input[0] >= 0x40 => self.drawing.data(input, output)?,
-            Set::Pdi => {
-                self.drawing.open(input[0], output)?;
-                *input = &input[1..];
-            }
+            Set::Pdi => self.drawing.commands(input, output)?,
             Set::Macro => return self.call(input),
             Set::Primary | Set::Supplementary | Set::Mosaic | Set::Drcs => {
                 self.characters(set, input, output)?
