@@ -29,7 +29,7 @@ struct Lister<W> {
     session: Session,
     store: Vec<u8>,
     output: Vec<u8>,
-    line: Vec<u8>,
+    lines: Vec<u8>,
     text: W,
 }
 
@@ -41,7 +41,7 @@ impl<W: Write> Lister<W> {
             session,
             store,
             output: vec![0; RECORDS * RECORD],
-            line: Vec::with_capacity(RECORDS * 64),
+            lines: Vec::with_capacity(RECORDS * 64),
             text,
         }
     }
@@ -78,45 +78,64 @@ impl<W: Write> Lister<W> {
     }
 
     fn write_records(&mut self, written: usize) -> io::Result<()> {
-        self.line.clear();
+        self.lines.clear();
         let (records, _) = self.output[..written].as_chunks::<RECORD>();
         for record in records {
-            write_record(record, &mut self.line);
+            write_record(record, &mut self.lines);
         }
-        self.text.write_all(&self.line)
+        self.text.write_all(&self.lines)
     }
 }
+
+/// The longest line: 8 bytes and 8 signed numbers, a space after each.
+const LINE: usize = 8 * 4 + 8 * 12;
 
 /// One record as a line: 8 bytes, then 8 signed numbers.
-fn write_record(record: &[u8; RECORD], line: &mut Vec<u8>) {
+fn write_record(record: &[u8; RECORD], lines: &mut Vec<u8>) {
+    let mut line = [b' '; LINE];
+    let mut at = 0;
     let (bytes, numbers) = record.split_at(8);
     for &byte in bytes {
-        write_number(i32::from(byte), line);
-        line.push(b' ');
+        at += write_number(i32::from(byte), &mut line[at..]) + 1;
     }
     for number in numbers.as_chunks().0 {
-        write_number(i32::from_le_bytes(*number), line);
-        line.push(b' ');
+        at += write_number(i32::from_le_bytes(*number), &mut line[at..]) + 1;
     }
     // The last field is followed by the end of the line.
-    line.pop();
-    line.push(b'\n');
+    line[at - 1] = b'\n';
+    lines.extend_from_slice(&line[..at]);
 }
 
-fn write_number(number: i32, line: &mut Vec<u8>) {
-    if number < 0 {
-        line.push(b'-');
+/// Writes a number in front of `text`; answers how many bytes it takes.
+#[inline]
+fn write_number(number: i32, text: &mut [u8]) -> usize {
+    if (0..10).contains(&number) {
+        text[0] = b'0' + number as u8;
+        return 1;
     }
-    let mut digits = [0; 10];
-    let mut first = digits.len();
-    let mut rest = number.unsigned_abs();
-    loop {
-        first -= 1;
-        digits[first] = b'0' + (rest % 10) as u8;
+    let sign = usize::from(number < 0);
+    let size = number.unsigned_abs();
+    let length = sign + size.ilog10() as usize + 1;
+    text[0] = b'-';
+    let mut rest = size;
+    for digit in text[sign..length].iter_mut().rev() {
+        *digit = b'0' + (rest % 10) as u8;
         rest /= 10;
-        if rest == 0 {
-            break;
+    }
+    length
+}
+
+#[cfg(test)]
+mod tests {
+    use super::write_number;
+
+    #[test]
+    fn numbers() {
+        for number in [0, 9, 10, -1, -9, -10, 99, 100, 255, i32::MAX, i32::MIN] {
+            let mut text = [b' '; 12];
+            let length = write_number(number, &mut text);
+            assert_eq!(text[..length], *number.to_string().as_bytes());
+            assert!(text[length..].iter().all(|&byte| byte == b' '));
         }
     }
-    line.extend_from_slice(&digits[first..]);
 }
