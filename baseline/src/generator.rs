@@ -88,6 +88,7 @@ enum Theme {
 enum Item {
     Command,
     AnyOpcode,
+    Interrupted,
     Polygon,
     LongPolygon,
     SelectColour,
@@ -116,6 +117,8 @@ enum Item {
 use Item::*;
 
 const EVERYTHING: &[Item] = &[
+    Interrupted,
+    Interrupted,
     Command,
     Command,
     Command,
@@ -149,6 +152,8 @@ const EVERYTHING: &[Item] = &[
     Noise,
 ];
 const DRAWING: &[Item] = &[
+    Interrupted,
+    Interrupted,
     Command,
     Command,
     Command,
@@ -173,6 +178,8 @@ const MACROS: &[Item] = &[
     Call,
     Call,
     Call,
+    Interrupted,
+    Interrupted,
     Command,
     Domain,
     OperandsByMacro,
@@ -196,6 +203,8 @@ const CODING: &[Item] = &[
     DroppedShift,
     Characters,
     Characters,
+    Interrupted,
+    Interrupted,
     Command,
     Control,
     Idle,
@@ -209,6 +218,8 @@ const POLYGONS: &[Item] = &[
     LongPolygon,
     Polygon,
     Polygon,
+    Interrupted,
+    Interrupted,
     Command,
     Domain,
     SetColour,
@@ -321,6 +332,7 @@ impl Generator {
         match item {
             Command => self.command(),
             AnyOpcode => self.any_opcode(),
+            Interrupted => self.interrupted(),
             Polygon => self.polygon(),
             LongPolygon => self.long_polygon(),
             SelectColour => self.select_colour(),
@@ -340,7 +352,7 @@ impl Generator {
             SingleShift => self.single_shift(),
             DroppedShift => self.dropped_shift(),
             CloseSequence => {
-                let last = self.random.byte(0x46, 0x5F);
+                let last = self.random.byte(0x45, 0x5F);
                 self.escape(&[last]);
             }
             Define => self.define(),
@@ -474,6 +486,60 @@ impl Generator {
         }
         let count = self.random.below(20);
         self.data(count);
+    }
+
+    /// A command with things between its data that close nothing.
+    fn interrupted(&mut self) {
+        self.any_opcode();
+        for _ in 0..self.random.range(1, 4) {
+            self.interruption();
+            self.use_set(PDI);
+            let count = self.random.range(0, self.multi + 1);
+            self.data(count);
+        }
+    }
+
+    fn interruption(&mut self) {
+        match self.random.below(10) {
+            0 => self.idle(),
+            1 => self.ignored(),
+            2 => {
+                let shift = self.random.pick(&SINGLE_SHIFTS);
+                self.put(shift);
+                self.idle();
+            }
+            3 => {
+                let second = self.random.byte(0x20, 0x2F);
+                self.escape(&[second]);
+                self.idle();
+            }
+            4 => self.designate_any(),
+            5 => {
+                let set = self.random.pick(&[PRIMARY, SUPPLEMENTARY]);
+                self.use_set(set);
+                self.put(0x7F);
+            }
+            6 => {
+                let set = self.random.pick(&[PRIMARY, SUPPLEMENTARY]);
+                self.shift_to(set);
+                self.put(0x7F);
+            }
+            7 => {
+                self.shift_to(PDI);
+                self.data(1);
+            }
+            8 => {
+                let g = self.random.below(4);
+                self.lock(g);
+            }
+            _ if self.writing.is_none() => {
+                let name = self.any_name();
+                let length = self.random.range(0, 4);
+                self.define_name(name, |body| body.data(length));
+                self.call(name);
+            }
+            _ => {}
+        }
     }
 
     fn polygon(&mut self) {
@@ -786,6 +852,7 @@ impl Generator {
 
     fn body_items(&mut self, most: usize) {
         const ITEMS: &[Item] = &[
+            Interrupted,
             Command,
             Command,
             Polygon,

@@ -3,7 +3,7 @@
 use baseline::listing::{listing, GREATEST_BUDGET};
 use baseline::{colour, end, feed, open, Answer, Number, Session, STORE};
 
-/// The listing of a page without the pel of each record, which is (0, 0).
+/// The lines of a page's listing.
 fn lines(page: &[u8]) -> Vec<String> {
     let text = String::from_utf8(listing(page)).expect("a listing is ASCII");
     text.lines().map(str::to_owned).collect()
