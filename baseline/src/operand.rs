@@ -38,8 +38,8 @@ const fn spread(axis_bits: usize) -> Table {
     table
 }
 
-static TWO_DIMENSIONS: Table = spread(3);
-static THREE_DIMENSIONS: Table = spread(2);
+/// The tables of two and three dimensions.
+static TABLES: [Table; 2] = [spread(3), spread(2)];
 
 /// How point operands are laid out.
 #[derive(Clone, Copy, Debug, PartialEq, Eq)]
@@ -52,10 +52,7 @@ pub struct Layout {
 impl Layout {
     #[inline]
     fn table(self) -> &'static Table {
-        match self.three_dimensions {
-            false => &TWO_DIMENSIONS,
-            true => &THREE_DIMENSIONS,
-        }
+        &TABLES[usize::from(self.three_dimensions)]
     }
 
     /// The bits of the data byte that is at `place` of its operand.

@@ -73,3 +73,31 @@ fn cuts_change_nothing() {
         assert_alike(&whole, &cut, number);
     }
 }
+
+#[test]
+fn an_altered_store_only_stops_the_session() {
+    for number in 0..300 {
+        let page = page(6, number);
+        let mut random = Random::new(7, number);
+        let mut store = vec![0; STORE];
+        let (mut session, _) = open(&mut store, 50_000);
+        let mut rest = &page[..];
+        loop {
+            let cell = 32 * random.below(8);
+            store[cell + random.below(3)] = random.byte(0, 255) >> random.below(8);
+            let output = &mut vec![0; random.range(120, 300)];
+            let length = random.range(0, 30).min(rest.len());
+            let found = feed(&mut session, &mut store, &rest[..length], output);
+            assert!(found.consumed <= length && found.written <= output.len());
+            rest = &rest[found.consumed..];
+            match found.number {
+                Number::Full => {}
+                Number::Done if !rest.is_empty() => {}
+                _ => break,
+            }
+        }
+        let steps = session.steps();
+        let found = end(&mut session, &store, &mut [0; 120]);
+        assert_eq!((found.consumed, session.steps()), (0, steps));
+    }
+}
