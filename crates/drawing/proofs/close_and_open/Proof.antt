@@ -1,7 +1,7 @@
-use Rattle.rules.specs.Drawing.{openCommand}
-use Rattle.drawing.proofs.ClosingLaws.{close-place}
 use native.Mathlib.Omega.{arith}
+use Rattle.rules.specs.Drawing.{openCommand}
 use Rattle.figures.proofs.Carrying.{then-refused, then-drawn}
+use Rattle.drawing.proofs.ClosingLaws.{close-place}
 use borrow.Author.Needs.{needs}
 use Rattle.drawing.proofs.close_and_open.Statement.{statement}
 use Rattle.drawing.proofs.close_and_open.Tie as tie

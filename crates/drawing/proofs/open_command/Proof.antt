@@ -1,5 +1,5 @@
-use Rattle.drawing.proofs.ActionLaws.{open-marked, open-unmarked}
 use mathlib.Core.Path.{_∙_}
+use Rattle.drawing.proofs.ActionLaws.{open-marked, open-unmarked}
 use borrow.Author.Needs.{needs}
 use Rattle.drawing.proofs.open_command.Statement.{statement}
 use Rattle.drawing.proofs.open_command.Tie as tie
