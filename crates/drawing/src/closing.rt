@@ -22,7 +22,7 @@ ghost use lib.ListN.{length};
 ghost use Rattle.rules.specs.Drawing.{rowOf, withMode, complete, finish, opened, close};
 ghost use Rattle.figures.specs.Carried.{carryOut, drawingOf, carriedOf, DrawsBy};
 
-// Bytes that have not come are zero bits.
+// Applies an operand that is begun: the bytes that have not come are zero bits.
 fn complete(
     row: Row,
     pen: Pen,
@@ -41,6 +41,7 @@ fn complete(
     apply_begun(row, pen, command, look, map, out, at)
 }
 
+// Colour mode 0.
 fn direct(look: Look) -> Look
     ensures { λ r. ⌜ r ≡ record { domain = look .domain; colour = withMode Mode.Direct (look .colour) } ⌝ }
 {

@@ -1,4 +1,8 @@
 // The drawing layer: an action becomes records and a change of the drawing state, or a refusal.
+pub mod closing;
+pub mod operands;
+pub mod ranges;
+
 use crate::closing::close;
 use crate::closing::opened;
 use crate::operands::data_byte;
@@ -23,21 +27,10 @@ ghost use Rattle.rules.specs.Drawing.{rowOf, Draw, andThen, close, openCommand,
 ghost use Rattle.rules.specs.Ranges.{drawingFits};
 ghost use Rattle.figures.specs.Carried.{carryOut, drawingOf, carriedOf, DrawsBy};
 
-pub mod closing;
-pub mod operands;
-pub mod ranges;
-
-// Opens a command, with none open.
-fn open_command(
-    opcode: u8,
-    pen: Pen,
-    command: Command,
-    look: Look,
-    out: &mut [u8],
-    at: usize,
-) -> Drawn
+// Opens a command where none is open: whatever the closed one left is replaced.
+fn open_command(opcode: u8, pen: Pen, look: Look, out: &mut [u8], at: usize) -> Drawn
     requires { ⌜ at + 40 ≤ length (now out) ⌝ }
-    ensures { λ r. ⌜ DrawsBy (openCommand opcode) pen command look at (now (out .entry)) r (now (out .exit)) ⌝ }
+    ensures { λ r. ⌜ ((c : Command) → DrawsBy (openCommand opcode) pen c look at (now (out .entry)) r (now (out .exit))) ⌝ }
 {
     let fresh = opened(opcode, pen.point);
     let row = row_of(opcode);
@@ -72,6 +65,7 @@ fn close_and_mark(
     one_record(record, done.pen, done.command, done.look, out, done.at)
 }
 
+// Closes the command that the row is of, and opens another.
 fn close_and_open(
     row: Row,
     opcode: u8,
@@ -89,10 +83,10 @@ fn close_and_open(
     if done.refused {
         return done;
     }
-    open_command(opcode, done.pen, done.command, done.look, out, done.at)
+    open_command(opcode, done.pen, done.look, out, done.at)
 }
 
-// The state is in range, and the output has room for three records.
+// What an action draws, of a state in range; the output has room for three records.
 pub fn act(
     action: Action,
     pen: Pen,

@@ -80,6 +80,7 @@ pub fn apply_begun(
     next_operand(row, done.pen, done.command, done.look, done.at)
 }
 
+// One byte more of the operand that is begun.
 fn join_byte(pen: Pen, byte: u8) -> Pen
     requires { ⌜ pen .operand .count < 8 ⌝ }
     ensures { λ r. ⌜ r ≡ record { point = pen .point; operand = record { bytes = set (pen .operand .bytes) (pen .operand .count) byte; count = suc (pen .operand .count) } } ⌝ }
@@ -95,7 +96,7 @@ fn join_byte(pen: Pen, byte: u8) -> Pen
     Pen { point, operand }
 }
 
-// A byte that is dropped, joins the operand, or is its last. A refusal leaves it unread.
+// A byte is dropped, joins the operand, or is its last and applies it. A refused byte has not joined.
 pub fn data_byte(
     row: Row,
     byte: u8,

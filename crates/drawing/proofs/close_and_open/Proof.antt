@@ -1,7 +1,7 @@
-use Rattle.rules.specs.Drawing.{openCommand}
-use Rattle.drawing.proofs.ClosingLaws.{close-place}
 use native.Mathlib.Omega.{arith}
+use Rattle.rules.specs.Drawing.{openCommand}
 use Rattle.figures.proofs.Carrying.{then-refused, then-drawn}
+use Rattle.drawing.proofs.ClosingLaws.{close-place}
 use borrow.Author.Needs.{needs}
 use Rattle.drawing.proofs.close_and_open.Statement.{statement}
 use Rattle.drawing.proofs.close_and_open.Tie as tie
@@ -34,7 +34,7 @@ returns-2 c =
     let if1· = c .before .before .before .before .if1 in
     let pre· = c .before .before .before .before .before .before .before .before .before .before .before .pre in
     let open-command· = c .before .before .open-command in
-    then-drawn _ _ _ _ _ _ _ (close· .ensures) (if1· .left) (omega (arith, pre·)) tt (open-command· .ensures _)
+    then-drawn _ _ _ _ _ _ _ (close· .ensures) (if1· .left) (omega (arith, pre·)) tt (open-command· .ensures _ _)
 
 pub close-and-open-spec : {M : Type 1} → statement M
 close-and-open-spec =

@@ -1,5 +1,5 @@
-use Rattle.drawing.proofs.ActionLaws.{open-marked, open-unmarked}
 use mathlib.Core.Path.{_∙_}
+use Rattle.drawing.proofs.ActionLaws.{open-marked, open-unmarked}
 use borrow.Author.Needs.{needs}
 use Rattle.drawing.proofs.open_command.Statement.{statement}
 use Rattle.drawing.proofs.open_command.Tie as tie
@@ -26,7 +26,7 @@ returns c =
     let row-of· = c .before .before .before .before .before .before .before .row-of in
     let mark· = c .before .before .before .before .mark in
     let if1· = c .before .before .before .before .before .if1 in
-    λ m. one-record· .ensures m ∙ open-marked _ _ _ _ _ _ (opened· .ensures) (row-of· .ensures) _ (mark· .ensures) (if1· .taken)
+    λ k m. one-record· .ensures m ∙ open-marked _ _ _ _ _ _ (opened· .ensures) (row-of· .ensures) _ (mark· .ensures) (if1· .taken)
 
 no-record-requires : tie.Need-no-record-requires
 no-record-requires c κs = search needs
@@ -37,7 +37,7 @@ returns-2 c =
     let opened· = c .before .before .before .before .opened in
     let row-of· = c .before .before .before .row-of in
     let if1· = c .before .if1 in
-    λ m. no-record· .ensures _ m ∙ open-unmarked _ _ _ _ _ _ (opened· .ensures) (row-of· .ensures) (if1· .left)
+    λ k m. no-record· .ensures _ m ∙ open-unmarked _ _ _ _ _ _ (opened· .ensures) (row-of· .ensures) (if1· .left)
 
 pub open-command-spec : {M : Type 1} → statement M
 open-command-spec =

@@ -1,7 +1,7 @@
+use mathlib.Core.Path.{_∙_}
+use Rattle.rules.specs.Drawing.{finish}
 use Rattle.figures.specs.Carried.{carry}
 use Rattle.drawing.proofs.ClosingLaws.{finish-nothing}
-use Rattle.rules.specs.Drawing.{finish}
-use mathlib.Core.Path.{_∙_}
 use borrow.Author.Needs.{needs}
 use Rattle.drawing.proofs.closing.finish.Statement.{statement}
 use Rattle.drawing.proofs.closing.finish.Tie as tie

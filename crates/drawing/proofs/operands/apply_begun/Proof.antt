@@ -1,5 +1,5 @@
-use Rattle.drawing.proofs.OperandLaws.{begun-refused, begun-drawn}
 use native.Mathlib.Omega.{arith}
+use Rattle.drawing.proofs.OperandLaws.{begun-refused, begun-drawn}
 use borrow.Author.Needs.{needs}
 use Rattle.drawing.proofs.operands.apply_begun.Statement.{statement}
 use Rattle.drawing.proofs.operands.apply_begun.Tie as tie

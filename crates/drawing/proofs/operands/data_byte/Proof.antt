@@ -1,5 +1,5 @@
-use Rattle.drawing.proofs.OperandLaws.{data-dropped, data-joined, last-refused, last-drawn}
 use mathlib.Core.Path.{_∙_}
+use Rattle.drawing.proofs.OperandLaws.{data-dropped, data-joined, last-refused, last-drawn}
 use borrow.Author.Needs.{needs}
 use Rattle.drawing.proofs.operands.data_byte.Statement.{statement}
 use Rattle.drawing.proofs.operands.data_byte.Tie as tie

@@ -1,5 +1,5 @@
-use Rattle.figures.specs.Carried.{carry}
 use mathlib.Core.Path.{_∙_}
+use Rattle.figures.specs.Carried.{carry}
 use borrow.Author.Needs.{needs}
 use Rattle.drawing.proofs.operands.next_operand.Statement.{statement}
 use Rattle.drawing.proofs.operands.next_operand.Tie as tie

@@ -1,5 +1,5 @@
-use Rattle.drawing.proofs.RangeLaws.{and-first, and-second}
 use Rattle.rules.specs.Ranges.{drawingFits}
+use Rattle.drawing.proofs.RangeLaws.{and-first, and-second}
 use borrow.Author.Needs.{needs}
 use Rattle.drawing.proofs.ranges.drawing_fits.Statement.{statement}
 use Rattle.drawing.proofs.ranges.drawing_fits.Tie as tie

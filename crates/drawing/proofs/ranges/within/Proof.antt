@@ -1,6 +1,6 @@
+use mathlib.Core.Path.{refl}
 use borrow.Author.Tests.{le-leb, lt-leb}
 use Rattle.drawing.proofs.RangeLaws.{and-first, and-second}
-use mathlib.Core.Path.{refl}
 use Rattle.drawing.proofs.ranges.within.Statement.{statement}
 use Rattle.drawing.proofs.ranges.within.Tie as tie
 
