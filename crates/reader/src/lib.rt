@@ -1,0 +1,1 @@
+// The page reader: open, feed, end, colour and unread.
