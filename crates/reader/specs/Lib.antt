@@ -1,2 +1,4 @@
+pub mod Stub
 pub mod Turn
 pub mod View
+pub mod Handing

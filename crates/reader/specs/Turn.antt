@@ -1,20 +1,26 @@
 -- One turn of a reading: spent bodies removed, the checks in their order, and a step
-use Prim.Native.Nat.{ℕ, zero, suc, _+_, _-_}
+use Prim.Native.Nat.{ℕ, zero, suc, _+_}
 use mathlib.Core.Bool.{Bool, true, false}
-use mathlib.Core.List.{List}
-use mathlib.Core.Option.{Option, none, some}
-use lib.ListN.{length}
+use mathlib.Core.List.{List, [], _∷_}
+use lib.ListN.{length, getD}
 use lib.Dec.{ltb}
+use Rattle.rules.specs.declared.Bodies.{Bodies}
+use Rattle.rules.specs.declared.Cursor.{Cursor}
+use Rattle.rules.specs.declared.Read.{Read}
+use Rattle.rules.specs.declared.Read.the-variants.{Byte}
 use Rattle.rules.specs.declared.Record.{Record}
 use Rattle.rules.specs.declared.Refusal.{Refusal}
 use Rattle.rules.specs.declared.Refusal.the-variants.{BudgetUsed, OutOfRange}
 use Rattle.rules.specs.declared.Status.the-variants.{Stopped}
 use Rattle.rules.specs.declared.Answer.{Answer}
 use Rattle.rules.specs.declared.Answer.the-variants.{Done, Full, Refused}
+use Rattle.rules.specs.Bodies.{bodyAt, withBody, readBody}
 use Rattle.rules.specs.Record.{bytesOfAll}
-use Rattle.rules.specs.Step.{State, withStatus, removeSpent, Source, Sought, NothingLeft, Spoilt, Found, seek, Move, Stops, Goes, interpret}
+use Rattle.rules.specs.Step.{State, withBodies, withStatus, removeSpent, Source, FromBody, FromPiece, Sought, NothingLeft, Spoilt, Found, seek, Move, Stops, Goes, interpret}
 use Rattle.rules.specs.Reading.{roomForStep, consumedBy}
 use Rattle.records.specs.Bytes.{overwrite}
+use Rattle.reader.specs.declared.step.Course.{Course}
+use Rattle.reader.specs.declared.step.Course.the-variants.{GoesOn, Ends as Ends·course}
 
 -- The reading ends with an answer, or a step is accepted
 pub data Turn : Type 0 where
@@ -41,19 +47,46 @@ onSought false (suc n) (Found b v s r) w = onMove (interpret v s b) s w
 unfoldable pub turn : ℕ → ℕ → State → List ℕ → Turn
 turn room n w bs = onSought (ltb room roomForStep) n (seek (removeSpent w) bs) (removeSpent w)
 
--- A turn carried out on an output at a place, with so many bytes of the piece consumed
-pub record Turned : Type 0 where
-  pub answer : Option Answer
+-- A byte sought at a depth, once spent bodies are removed: whether there is none, or the byte and where its body is read on
+abbrev pub nothingLeft : ℕ → List ℕ → Bool
+nothingLeft zero [] = true
+nothingLeft zero (b ∷ bs) = false
+nothingLeft (suc i) bs = false
+
+abbrev pub nextByte : ℕ → List ℕ → Bodies → List ℕ → Read
+nextByte zero st y bs = Byte (getD bs 0 0) (record { cell = 0; place = 0 })
+nextByte (suc i) st y bs = readBody st (bodyAt y i)
+
+-- Without a body, the byte is the piece's
+abbrev pub sourceAt : ℕ → Source
+sourceAt zero = FromPiece
+sourceAt (suc i) = FromBody
+
+abbrev pub readOn : ℕ → Cursor → Bodies → Bodies
+readOn zero x y = y
+readOn (suc i) x y = withBody (suc i) i x y
+
+abbrev pub advanced : ℕ → Cursor → State → State
+advanced d x w = withBodies (readOn d x (w .session .bodies)) w
+
+-- What a byte comes to that is read at a depth
+unfoldable pub interpreted : ℕ → Cursor → ℕ → State → Turn
+interpreted d x b w = onMove (interpret (advanced d x w) (sourceAt d) b) (sourceAt d) w
+
+-- What a turn leaves, at a place of the piece and of the output
+pub record Left : Type 0 where
+  pub course : Course
   pub state : State
   pub consumed : ℕ
   pub written : ℕ
   pub output : List ℕ
 
-unfoldable pub carry : Turn → ℕ → ℕ → List ℕ → Turned
-carry (Ends a w) at written out = record { answer = some a; state = w; consumed = at; written = written; output = out }
-carry (Steps s u rs) at written out =
+unfoldable pub leaves : Turn → ℕ → ℕ → List ℕ → Left
+leaves (Ends a w) at written out =
+    record { course = Ends·course a; state = w; consumed = at; written = written; output = out }
+leaves (Steps s u rs) at written out =
     record {
-      answer = none;
+      course = GoesOn;
       state = u;
       consumed = consumedBy s at;
       written = written + length (bytesOfAll rs);

@@ -1,0 +1,4 @@
+pub mod Turns
+pub mod Whole
+pub mod StepLaws
+pub mod TurnLaws

@@ -1,0 +1,25 @@
+use borrow.Author.Needs.{needs}
+use Rattle.reader.proofs.step.read_on.Statement.{statement}
+use Rattle.reader.proofs.step.read_on.Tie as tie
+use Rattle.reader.proofs.step.read_on.Reads as reads
+use Rattle.reader.proofs.step.read_on.Lts as lts
+use Rattle.reader.proofs.stub.set_body.Reads as set-body-reads
+
+-- src/step.rt:79:9
+returns : tie.Need-returns
+returns c = ?
+
+-- src/step.rt:81:29
+sub-set-body : tie.Need-sub-set-body
+sub-set-body c = search needs
+
+-- src/step.rt:81:5
+set-body-requires : tie.Need-set-body-requires
+set-body-requires c κs = search needs
+
+-- src/step.rt:74:1
+returns-2 : tie.Need-returns-2
+returns-2 c = ?
+
+pub read-on-spec : {M : Type 1} → statement M
+read-on-spec = tie.close (tie.spec returns sub-set-body set-body-requires returns-2)

@@ -1,0 +1,25 @@
+use borrow.Author.Needs.{needs}
+use Rattle.reader.proofs.turn.next_byte.Statement.{statement}
+use Rattle.reader.proofs.turn.next_byte.Tie as tie
+use Rattle.reader.proofs.turn.next_byte.Reads as reads
+use Rattle.reader.proofs.turn.next_byte.Lts as lts
+use Rattle.reader.proofs.stub.innermost.Reads as innermost-reads
+
+-- src/turn.rt:44:27
+shared-slice-read-t9 : tie.Need-shared-slice-read-t9
+shared-slice-read-t9 c = ?
+
+-- src/turn.rt:44:9
+returns : tie.Need-returns
+returns c = ?
+
+-- src/turn.rt:46:5
+innermost-requires : tie.Need-innermost-requires
+innermost-requires c κs = search needs
+
+-- src/turn.rt:32:1
+returns-2 : tie.Need-returns-2
+returns-2 c = ?
+
+pub next-byte-spec : {M : Type 1} → statement M
+next-byte-spec = tie.close (tie.spec shared-slice-read-t9 returns innermost-requires returns-2)

@@ -1,0 +1,51 @@
+use borrow.Author.Needs.{needs}
+use Rattle.reader.proofs.verdict.verdict.Statement.{statement}
+use Rattle.reader.proofs.verdict.verdict.Tie as tie
+use Rattle.reader.proofs.verdict.verdict.Reads as reads
+use Rattle.reader.proofs.verdict.verdict.Lts as lts
+use Rattle.reader.proofs.verdict.in_range.Reads as in-range-reads
+
+-- src/verdict.rt:45:9
+returns : tie.Need-returns
+returns c = ?
+
+-- src/verdict.rt:49:28
+enum-told : tie.Need-enum-told
+enum-told c = search needs
+
+-- src/verdict.rt:49:28
+in-range-requires : tie.Need-in-range-requires
+in-range-requires c κs = search needs
+
+-- src/verdict.rt:50:41
+enum-told-2 : tie.Need-enum-told-2
+enum-told-2 c = search needs
+
+-- src/verdict.rt:51:25
+enum-known-status : tie.Need-enum-known-status
+enum-known-status c = search needs
+
+-- src/verdict.rt:41:1
+returns-2 : tie.Need-returns-2
+returns-2 c = ?
+
+-- src/verdict.rt:41:1
+returns-3 : tie.Need-returns-3
+returns-3 c = ?
+
+-- src/verdict.rt:41:1
+returns-4 : tie.Need-returns-4
+returns-4 c = ?
+
+pub verdict-spec : {M : Type 1} → statement M
+verdict-spec =
+    tie.close
+    (tie.spec
+    returns
+    enum-told
+    in-range-requires
+    enum-told-2
+    enum-known-status
+    returns-2
+    returns-3
+    returns-4)
