@@ -114,7 +114,7 @@ pub fn point_of(o: Operand, three: bool) -> Point
 }
 
 // A byte of an operand, 0 where it has not come.
-fn byte_of(o: Operand, i: usize) -> u8
+pub fn byte_of(o: Operand, i: usize) -> u8
     requires { ⌜ i < 8 ⌝ }
     ensures { λ r. ⌜ r ≡ getD (begun o) i 0 ⌝ }
 {

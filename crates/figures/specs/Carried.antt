@@ -2,7 +2,9 @@
 use Prim.Native.Nat.{ℕ, _+_}
 use mathlib.Core.Bool.{Bool, true, false}
 use mathlib.Core.List.{List}
+use mathlib.Core.Path.{_≡_}
 use lib.ListN.{length}
+use Rattle.rules.specs.declared.Point.{Point}
 use Rattle.rules.specs.declared.Pen.{Pen}
 use Rattle.rules.specs.declared.Command.{Command}
 use Rattle.rules.specs.declared.Look.{Look}
@@ -29,6 +31,10 @@ carry (Draw e rs) d at out =
       output = overwrite at (bytesOfAll rs) out;
     }
 
+-- The drawing point elsewhere
+abbrev pub movedTo : Point → Pen → Pen
+movedTo q p = record { point = q; operand = p .operand }
+
 -- The drawing state in the parts that functions take, the colour map lent beside them
 abbrev pub drawingOf : Pen → Command → Look → List ℕ → Drawing
 drawingOf p c l m = record { pen = p; command = c; look = l; map = m }
@@ -37,3 +43,15 @@ drawingOf p c l m = record { pen = p; command = c; look = l; map = m }
 abbrev pub carriedOf : Drawn → List ℕ → List ℕ → Carried
 carriedOf r m out =
     record { refused = r .refused; drawing = drawingOf (r .pen) (r .command) (r .look) m; at = r .at; output = out }
+
+-- What a rule does to a drawing state, carried out
+abbrev pub carryOut : (Drawing → Outcome) → Drawing → ℕ → List ℕ → Carried
+carryOut rule d at out = carry (rule d) d at out
+
+-- The answer of a function that draws by a rule which leaves the colour map, whatever that holds
+abbrev pub DrawsBy : (Drawing → Outcome) → Pen → Command → Look → ℕ → List ℕ → Drawn → List ℕ → Type 0
+DrawsBy rule p c l at out r out′ = (m : List ℕ) → carriedOf r m out′ ≡ carryOut rule (drawingOf p c l m) at out
+
+-- The same of one that writes no record, whatever stands in the output
+abbrev pub ChangesBy : (Drawing → Outcome) → Pen → Command → Look → ℕ → Drawn → Type 0
+ChangesBy rule p c l at r = (out : List ℕ) → DrawsBy rule p c l at out r out

@@ -120,24 +120,27 @@ module _ (f : Filling) (b : ℕ) (sized : Sized (f .store)) (low : f .definition
     in-decides : storeEscapeAnd f b ≡ storeByte (inLast (held f) f 27) b
     in-decides = second-decides f b _ (byte-in f 27 nz good room ∙ in-last f 27 (held f))
 
+    -- Both bytes do, or the second takes a new cell
     two-in : held f < 29 → Accepted (storeEscapeAnd f b)
     two-in h = rw in-decides (after-room (inLast (held f) f 27) b nz (omega (arith, in-count)) (omega (arith, in-count)))
 
-    two-over : held f ≡ 29 → Ending f b (freeCell (f .store))
+    two-split : held f ≡ 29 → Ending f b (freeCell (f .store))
     unfolding freeCell
-    two-over h =
+    two-split h =
         let g = inLast (held f) f 27 in
         let full = in-decides ∙ after-full g b nz (omega (arith, in-count)) in
         pick-cases (Ending f b) (eqb (front f) 0) _ _
         (λ z. full ∙ new-none g b (front g) (in-front ∙ eqb-true (front f) 0 z))
         (λ z. rw (full ∙ in-new g b (front g) (λ q. eqb-false (front f) 0 z (sym in-front ∙ q))) tt)
 
-  two-full : (f .definition .last ≡ 0 → ⊥) → goodCount (held f) ≡ true → 29 ≤ held f → Ending f b (freeCell (f .store))
-  two-full nz good h =
+  -- The last cell has room for one byte or for none
+  two-over : (f .definition .last ≡ 0 → ⊥) → goodCount (held f) ≡ true → 29 ≤ held f → Ending f b (freeCell (f .store))
+  two-over nz good h =
       by-test (eqb (held f) 29)
-      (λ e. two-over nz good (omega (arith, eqb-true (held f) 29 e)) (eqb-true (held f) 29 e))
+      (λ e. two-split nz good (omega (arith, eqb-true (held f) 29 e)) (eqb-true (held f) 29 e))
       (λ e. two-new (byte-full f 27 nz good (omega (arith, good-most (held f) good, eqb-false (held f) 29 e))))
 
+  -- The test tells how both bytes end
   two : Ending f b (roomForTwo (f .store) (f .definition .last))
   unfolding roomForTwo
   two =
@@ -148,7 +151,7 @@ module _ (f : Filling) (b : ℕ) (sized : Sized (f .store)) (low : f .definition
       (λ good.
       pick-cases (Ending f b) (ltb (held f) 29) _ _
       (λ h. two-in nz good (omega (arith, ltb-true (held f) 29 h)) (ltb-true (held f) 29 h))
-      (λ h. two-full nz good (ltb-false (held f) 29 h)))
+      (λ h. two-over nz good (ltb-false (held f) 29 h)))
       (λ bad. refused-first f b OutOfRange (byte-bad f 27 nz bad)))
 
   -- From what the calls hand back

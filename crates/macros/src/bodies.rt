@@ -7,6 +7,7 @@ use rules::Cursor;
 use rules::Read;
 ghost use mathlib.Core.Path.{_≡_};
 ghost use Prim.Native.Nat.{_<_};
+ghost use Rattle.rules.specs.Store.{mostBytes};
 ghost use Rattle.rules.specs.Bodies.{hasLeft, readCell, readBody};
 ghost use Rattle.macros.specs.Lent.{Sized};
 
@@ -20,7 +21,7 @@ pub fn has_left(store: &[u8], cursor: Cursor) -> bool
 
 // The byte at the cursor, which is in its cell, and the place after it.
 fn read_cell(store: &[u8], cursor: Cursor) -> Read
-    requires { ⌜ (Sized (now store)) × (cursor .place < 30) ⌝ }
+    requires { ⌜ (Sized (now store)) × (cursor .place < mostBytes) ⌝ }
     ensures { λ r. ⌜ r ≡ readCell (now (store .entry)) cursor ⌝ }
 {
     let byte = body_byte(store, cursor.cell, cursor.place);

@@ -1,7 +1,7 @@
 // One cell of the store. Only this file knows where the parts of a cell lie.
 ghost use mathlib.Core.Path.{_≡_};
 ghost use Prim.Native.Nat.{_<_};
-ghost use Rattle.rules.specs.Store.{nextOf, setNext, countOf, setCount, goodCount, bodyByte, setBodyByte};
+ghost use Rattle.rules.specs.Store.{nextOf, setNext, countOf, setCount, mostBytes, goodCount, bodyByte, setBodyByte};
 ghost use Rattle.macros.specs.Lent.{Sized};
 
 // The bytes of a cell: the next cell, the count, and the body bytes.
@@ -47,14 +47,14 @@ pub fn good_count(count: u8) -> bool
 }
 
 pub fn body_byte(store: &[u8], cell: u8, place: u8) -> u8
-    requires { ⌜ (Sized (now store)) × (place < 30) ⌝ }
+    requires { ⌜ (Sized (now store)) × (place < mostBytes) ⌝ }
     ensures { λ r. ⌜ r ≡ bodyByte (now (store .entry)) cell place ⌝ }
 {
     store[CELL_SIZE * (cell as usize) + 2 + (place as usize)]
 }
 
 pub fn set_body_byte(store: &mut [u8], cell: u8, place: u8, byte: u8)
-    requires { ⌜ (Sized (now store)) × (place < 30) ⌝ }
+    requires { ⌜ (Sized (now store)) × (place < mostBytes) ⌝ }
     ensures { λ _. ⌜ now (store .exit) ≡ setBodyByte (now (store .entry)) cell place byte ⌝ }
 {
     store[CELL_SIZE * (cell as usize) + 2 + (place as usize)] = byte;

@@ -1,12 +1,11 @@
 -- Demand 3 as it is asked: "Nobody who chooses the cuts, the buffer sizes or the macros can change a picture"
-use Prim.Native.Nat.{ℕ, _-_}
+use Prim.Native.Nat.{ℕ}
 use mathlib.Core.Path.{_≡_, refl, sym, ap, ap₂, _∙_, subst}
 use mathlib.Core.Bool.{Bool, true, false, _&&_, and-false}
 use mathlib.Core.List.{List, [], _++_}
 use lib.ListN.{length, take, drop}
 use lib.Dec.{ltb}
 use lib.Seq.{take-append-seam}
-use Rattle.rules.specs.declared.Action.the-variants.{Close}
 use Rattle.rules.specs.declared.Answer.the-variants.{Done, Full}
 use Rattle.rules.specs.Bodies.{bytesLeft}
 use Rattle.rules.specs.Coding.{unfinished}
@@ -15,7 +14,7 @@ use Rattle.rules.specs.Step.{State}
 use Rattle.rules.specs.declared.Verdict.{Verdict}
 use Rattle.rules.specs.declared.Verdict.the-variants.{Passes, Fails}
 use Rattle.rules.specs.Reading.{Reading, Steps, roomForStep, tests, readTo, undivided}
-use Rattle.rules.specs.Calls.{opened, Opening, openAs, openPage, ending, endChecks, end, Lent, feeds, lentBytes}
+use Rattle.rules.specs.Calls.{opened, openAs, openPage, ending, endChecks, end, Lent, feeds, lentBytes}
 use Rattle.rules.specs.Expansion.{expansion, readPage, endPage, Accepted, allRecords, SameState}
 use Rattle.rules.proofs.Readings.{Waits, full-done, refused-done}
 use Rattle.rules.proofs.Cutting.{cutting, opened-no-steps}

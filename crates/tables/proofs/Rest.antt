@@ -1,4 +1,4 @@
--- The variants that stand for themselves in no arm: at each, the rule is what the `_` arm answers.
+-- The `_` arm of a match on an enum: at each variant that it stands for, by its number, the rule is what the arm answers.
 -- Assumes nothing.
 use mathlib.Core.Path.{_≡_, refl}
 use mathlib.Core.Bool.{true, false}
@@ -21,85 +21,90 @@ use Rattle.rules.specs.Coding.{afterEscape, unfinished}
 use Rattle.rules.specs.Drawing.{advanced, dueAfter, lengthOf}
 use Rattle.rules.specs.Ranges.{operandLength}
 
-abbrev advancing : List ℕ
-advancing = 4 ∷ 5 ∷ 6 ∷ 7 ∷ 8 ∷ 9 ∷ 10 ∷ 11 ∷ []
+-- Patterns that do not repeat
+abbrev due-rest : List ℕ
+due-rest = 4 ∷ 5 ∷ 6 ∷ 7 ∷ 8 ∷ 9 ∷ 10 ∷ 11 ∷ []
 
-pub advances : (p : Pattern) (n : Due) → OneOf advancing (tagOf the-pattern p) → advanced n ≡ dueAfter p n
+pub due-otherwise : (p : Pattern) (n : Due) → OneOf due-rest (tagOf the-pattern p) → advanced n ≡ dueAfter p n
 unfolding dueAfter
-advances A n h = absurd (miss advancing 0 tt h)
-advances D n h = absurd (miss advancing 1 tt h)
-advances AA n h = absurd (miss advancing 2 tt h)
-advances AD n h = absurd (miss advancing 3 tt h)
-advances ArcDD n h = refl
-advances ArcADD n h = refl
-advances PolygonD n h = refl
-advances PolygonAD n h = refl
-advances Domain·pattern n h = refl
-advances SelectColour n h = refl
-advances SetColour n h = refl
-advances Skipped n h = refl
+due-otherwise A n h = absurd (miss due-rest 0 tt h)
+due-otherwise D n h = absurd (miss due-rest 1 tt h)
+due-otherwise AA n h = absurd (miss due-rest 2 tt h)
+due-otherwise AD n h = absurd (miss due-rest 3 tt h)
+due-otherwise ArcDD n h = refl
+due-otherwise ArcADD n h = refl
+due-otherwise PolygonD n h = refl
+due-otherwise PolygonAD n h = refl
+due-otherwise Domain·pattern n h = refl
+due-otherwise SelectColour n h = refl
+due-otherwise SetColour n h = refl
+due-otherwise Skipped n h = refl
 
-abbrev multi-value : List ℕ
-multi-value = 0 ∷ 1 ∷ 2 ∷ 3 ∷ 4 ∷ 5 ∷ 6 ∷ 8 ∷ 11 ∷ []
+-- Multi-value operands
+abbrev length-rest : List ℕ
+length-rest = 0 ∷ 1 ∷ 2 ∷ 3 ∷ 4 ∷ 5 ∷ 6 ∷ 8 ∷ 11 ∷ []
 
-pub multi-length : (r : Role) (o : Domain) → OneOf multi-value (tagOf the-role r) → o .multi ≡ lengthOf r o
+pub length-otherwise : (r : Role) (o : Domain) → OneOf length-rest (tagOf the-role r) → o .multi ≡ lengthOf r o
 unfolding lengthOf
-multi-length MoveTo o h = refl
-multi-length DrawTo o h = refl
-multi-length DrawBy o h = refl
-multi-length Middle o h = refl
-multi-length ArcEnd o h = refl
-multi-length Start o h = refl
-multi-length Edge o h = refl
-multi-length Lengths o h = absurd (miss multi-value 7 tt h)
-multi-length Pel o h = refl
-multi-length Foreground o h = absurd (miss multi-value 9 tt h)
-multi-length Background o h = absurd (miss multi-value 10 tt h)
-multi-length Shade o h = refl
-multi-length Dropped o h = absurd (miss multi-value 12 tt h)
+length-otherwise MoveTo o h = refl
+length-otherwise DrawTo o h = refl
+length-otherwise DrawBy o h = refl
+length-otherwise Middle o h = refl
+length-otherwise ArcEnd o h = refl
+length-otherwise Start o h = refl
+length-otherwise Edge o h = refl
+length-otherwise Lengths o h = absurd (miss length-rest 7 tt h)
+length-otherwise Pel o h = refl
+length-otherwise Foreground o h = absurd (miss length-rest 9 tt h)
+length-otherwise Background o h = absurd (miss length-rest 10 tt h)
+length-otherwise Shade o h = refl
+length-otherwise Dropped o h = absurd (miss length-rest 12 tt h)
 
-abbrev not-select : List ℕ
-not-select = 0 ∷ 1 ∷ 2 ∷ 3 ∷ 4 ∷ 5 ∷ 6 ∷ 7 ∷ 8 ∷ 10 ∷ 11 ∷ []
+-- Patterns of multi-value operands
+abbrev operand-rest : List ℕ
+operand-rest = 0 ∷ 1 ∷ 2 ∷ 3 ∷ 4 ∷ 5 ∷ 6 ∷ 7 ∷ 8 ∷ 10 ∷ 11 ∷ []
 
-pub multi-operand : (p : Pattern) (o : Domain) → OneOf not-select (tagOf the-pattern p) → o .multi ≡ operandLength p o
+pub operand-otherwise : (p : Pattern) (o : Domain) → OneOf operand-rest (tagOf the-pattern p) → o .multi ≡ operandLength p o
 unfolding operandLength
-multi-operand A o h = refl
-multi-operand D o h = refl
-multi-operand AA o h = refl
-multi-operand AD o h = refl
-multi-operand ArcDD o h = refl
-multi-operand ArcADD o h = refl
-multi-operand PolygonD o h = refl
-multi-operand PolygonAD o h = refl
-multi-operand Domain·pattern o h = refl
-multi-operand SelectColour o h = absurd (miss not-select 9 tt h)
-multi-operand SetColour o h = refl
-multi-operand Skipped o h = refl
+operand-otherwise A o h = refl
+operand-otherwise D o h = refl
+operand-otherwise AA o h = refl
+operand-otherwise AD o h = refl
+operand-otherwise ArcDD o h = refl
+operand-otherwise ArcADD o h = refl
+operand-otherwise PolygonD o h = refl
+operand-otherwise PolygonAD o h = refl
+operand-otherwise Domain·pattern o h = refl
+operand-otherwise SelectColour o h = absurd (miss operand-rest 9 tt h)
+operand-otherwise SetColour o h = refl
+operand-otherwise Skipped o h = refl
 
-abbrev not-escape : List ℕ
-not-escape = 0 ∷ 1 ∷ 3 ∷ 4 ∷ 5 ∷ 6 ∷ []
+-- What is waited for after another byte than ESC
+abbrev escape-rest : List ℕ
+escape-rest = 0 ∷ 1 ∷ 3 ∷ 4 ∷ 5 ∷ 6 ∷ []
 
-pub no-escape : (w : Waiting) → OneOf not-escape (tagOf the-waiting w) → false ≡ afterEscape w
+pub escape-otherwise : (w : Waiting) → OneOf escape-rest (tagOf the-waiting w) → false ≡ afterEscape w
 unfolding afterEscape
-no-escape Nothing h = refl
-no-escape (Shifted s) h = refl
-no-escape Escape h = absurd (miss not-escape 2 tt h)
-no-escape (Designator e) h = refl
-no-escape Longer h = refl
-no-escape Name h = refl
-no-escape (Body d) h = refl
-no-escape (BodyEscape d) h = absurd (miss not-escape 7 tt h)
+escape-otherwise Nothing h = refl
+escape-otherwise (Shifted s) h = refl
+escape-otherwise Escape h = absurd (miss escape-rest 2 tt h)
+escape-otherwise (Designator e) h = refl
+escape-otherwise Longer h = refl
+escape-otherwise Name h = refl
+escape-otherwise (Body d) h = refl
+escape-otherwise (BodyEscape d) h = absurd (miss escape-rest 7 tt h)
 
-abbrev inside : List ℕ
-inside = 2 ∷ 3 ∷ 4 ∷ 5 ∷ 6 ∷ 7 ∷ []
+-- What is waited for inside an escape sequence or a definition
+abbrev unfinished-rest : List ℕ
+unfinished-rest = 2 ∷ 3 ∷ 4 ∷ 5 ∷ 6 ∷ 7 ∷ []
 
-pub is-inside : (w : Waiting) → OneOf inside (tagOf the-waiting w) → true ≡ unfinished w
+pub unfinished-otherwise : (w : Waiting) → OneOf unfinished-rest (tagOf the-waiting w) → true ≡ unfinished w
 unfolding unfinished
-is-inside Nothing h = absurd (miss inside 0 tt h)
-is-inside (Shifted s) h = absurd (miss inside 1 tt h)
-is-inside Escape h = refl
-is-inside (Designator e) h = refl
-is-inside Longer h = refl
-is-inside Name h = refl
-is-inside (Body d) h = refl
-is-inside (BodyEscape d) h = refl
+unfinished-otherwise Nothing h = absurd (miss unfinished-rest 0 tt h)
+unfinished-otherwise (Shifted s) h = absurd (miss unfinished-rest 1 tt h)
+unfinished-otherwise Escape h = refl
+unfinished-otherwise (Designator e) h = refl
+unfinished-otherwise Longer h = refl
+unfinished-otherwise Name h = refl
+unfinished-otherwise (Body d) h = refl
+unfinished-otherwise (BodyEscape d) h = refl

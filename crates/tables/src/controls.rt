@@ -6,7 +6,9 @@ use rules::SingleShift;
 ghost use mathlib.Core.Path.{_≡_};
 ghost use Rattle.rules.specs.Coding.{classOf};
 
+// What each control does, from 0/0 on.
 const CONTROLS: [Control; 32] = [
+    // 0/0 to 0/6
     Control::Ignored,
     Control::Ignored,
     Control::Ignored,
@@ -14,6 +16,7 @@ const CONTROLS: [Control; 32] = [
     Control::Ignored,
     Control::Ignored,
     Control::Ignored,
+    // 0/7 to 0/13
     Control::Recorded,
     Control::Recorded,
     Control::Recorded,
@@ -21,8 +24,10 @@ const CONTROLS: [Control; 32] = [
     Control::Recorded,
     Control::Recorded,
     Control::Recorded,
+    // 0/14 SO, 0/15 SI
     Control::Locks(Element::G1),
     Control::Locks(Element::G0),
+    // 1/0 to 1/8
     Control::Recorded,
     Control::Recorded,
     Control::Recorded,
@@ -32,10 +37,13 @@ const CONTROLS: [Control; 32] = [
     Control::Recorded,
     Control::Recorded,
     Control::Recorded,
+    // 1/9 SS2
     Control::Shifts(SingleShift::Ss2),
     Control::Recorded,
+    // 1/11 ESC
     Control::Escapes,
     Control::Barred,
+    // 1/13 SS3
     Control::Shifts(SingleShift::Ss3),
     Control::Recorded,
     Control::Barred,

@@ -9,7 +9,7 @@ use rules::Waiting;
 ghost use mathlib.Core.Path.{_≡_};
 ghost use Rattle.rules.specs.Coding.{designatorOf, designatedBy, finalOf, innerOf, afterEscape, unfinished};
 
-// What is waited for after each byte of column 2 that follows ESC.
+// What is waited for after ESC and each byte of column 2.
 const DESIGNATORS: [Waiting; 16] = [
     Waiting::Longer,
     Waiting::Longer,
@@ -19,11 +19,13 @@ const DESIGNATORS: [Waiting; 16] = [
     Waiting::Longer,
     Waiting::Longer,
     Waiting::Longer,
+    // 2/8 to 2/11
     Waiting::Designator(Element::G0),
     Waiting::Designator(Element::G1),
     Waiting::Designator(Element::G2),
     Waiting::Designator(Element::G3),
     Waiting::Longer,
+    // 2/13 to 2/15
     Waiting::Designator(Element::G1),
     Waiting::Designator(Element::G2),
     Waiting::Designator(Element::G3),
@@ -38,6 +40,7 @@ pub fn designator_of(b: u8) -> Waiting
     }
 }
 
+// What the final byte of a designating sequence names.
 pub fn designated_by(b: u8) -> Designated
     ensures { λ r. ⌜ r ≡ designatedBy b ⌝ }
 {
@@ -52,6 +55,7 @@ pub fn designated_by(b: u8) -> Designated
     }
 }
 
+// What the final byte of a two-byte sequence does.
 pub fn final_of(b: u8) -> Final
     ensures { λ r. ⌜ r ≡ finalOf b ⌝ }
 {
@@ -65,6 +69,7 @@ pub fn final_of(b: u8) -> Final
     }
 }
 
+// What a byte after ESC does in a definition.
 pub fn inner_of(b: u8) -> Inner
     ensures { λ r. ⌜ r ≡ innerOf b ⌝ }
 {
@@ -77,7 +82,7 @@ pub fn inner_of(b: u8) -> Inner
     }
 }
 
-// Whether an ESC was read last, in a definition or outside one.
+// Whether the byte before was ESC, in a definition or outside one.
 pub fn after_escape(w: Waiting) -> bool
     ensures { λ r. ⌜ r ≡ afterEscape w ⌝ }
 {
@@ -88,7 +93,7 @@ pub fn after_escape(w: Waiting) -> bool
     }
 }
 
-// Whether an escape sequence or a definition is not finished.
+// Whether the page is inside an escape sequence or a definition.
 pub fn unfinished(w: Waiting) -> bool
     ensures { λ r. ⌜ r ≡ unfinished w ⌝ }
 {

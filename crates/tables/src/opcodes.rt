@@ -8,7 +8,7 @@ ghost use mathlib.Core.Path.{_≡_};
 ghost use Rattle.rules.specs.Drawing.{rowOf, nth, roleOf, advanced, dueAfter, lengthOf};
 ghost use Rattle.rules.specs.Ranges.{operandLength};
 
-// The row of an opcode whose data is dropped.
+// The row of an opcode that is skipped.
 const OTHER: Row = Row {
     pattern: Pattern::Skipped,
     kind: 9,
@@ -174,7 +174,7 @@ const ROWS: [Row; 32] = [
     OTHER,
 ];
 
-// The row of an open command. No command has opcode 0, and its data is dropped like that of a skipped opcode.
+// The row of the open command. Opcode 0, none open, has the row of a skipped one.
 pub fn row_of(opcode: u8) -> Row
     ensures { λ r. ⌜ r ≡ rowOf opcode ⌝ }
 {
@@ -221,6 +221,7 @@ pub fn role_of(p: Pattern, n: Due) -> Role
     }
 }
 
+// The operand that is due next where a pattern does not repeat.
 fn advance(n: Due) -> Due
     ensures { λ r. ⌜ r ≡ advanced n ⌝ }
 {
@@ -232,7 +233,7 @@ fn advance(n: Due) -> Due
     }
 }
 
-// A pattern of two operands begins anew after the second.
+// The same where a pattern of two operands repeats.
 fn alternate(n: Due) -> Due
     ensures { λ r. ⌜ r ≡ dueAfter Pattern.AA n ⌝ }
 {
@@ -269,7 +270,7 @@ pub fn length_of(r: Role, d: Domain) -> u8
     }
 }
 
-// The bytes that an operand of a pattern has at most.
+// The bytes of the operands of an open command, by its pattern.
 pub fn operand_length(p: Pattern, d: Domain) -> u8
     ensures { λ n. ⌜ n ≡ operandLength p d ⌝ }
 {

@@ -26,13 +26,7 @@ pub fn in_use(e: Element, s: Sets) -> Sets
     let g1 = s.g1;
     let g2 = s.g2;
     let g3 = s.g3;
-    Sets {
-        g0,
-        g1,
-        g2,
-        g3,
-        used: e,
-    }
+    sets(g0, g1, g2, g3, e)
 }
 
 pub fn designate(e: Element, x: Set, s: Sets) -> Sets
@@ -44,34 +38,22 @@ pub fn designate(e: Element, x: Set, s: Sets) -> Sets
     let g3 = s.g3;
     let used = s.used;
     match e {
-        Element::G0 => Sets {
-            g0: x,
-            g1,
-            g2,
-            g3,
-            used,
-        },
-        Element::G1 => Sets {
-            g0,
-            g1: x,
-            g2,
-            g3,
-            used,
-        },
-        Element::G2 => Sets {
-            g0,
-            g1,
-            g2: x,
-            g3,
-            used,
-        },
-        Element::G3 => Sets {
-            g0,
-            g1,
-            g2,
-            g3: x,
-            used,
-        },
+        Element::G0 => sets(x, g1, g2, g3, used),
+        Element::G1 => sets(g0, x, g2, g3, used),
+        Element::G2 => sets(g0, g1, x, g3, used),
+        Element::G3 => sets(g0, g1, g2, x, used),
+    }
+}
+
+fn sets(g0: Set, g1: Set, g2: Set, g3: Set, used: Element) -> Sets
+    ensures { λ r. ⌜ r ≡ record { g0 = g0; g1 = g1; g2 = g2; g3 = g3; used = used } ⌝ }
+{
+    Sets {
+        g0,
+        g1,
+        g2,
+        g3,
+        used,
     }
 }
 
@@ -84,7 +66,6 @@ pub fn shifted_to(s: SingleShift) -> Element
     }
 }
 
-// DEL of primary and supplementary does nothing.
 pub fn character(x: Repertoire, b: u8) -> Action
     ensures { λ r. ⌜ r ≡ character x b ⌝ }
 {
@@ -94,6 +75,7 @@ pub fn character(x: Repertoire, b: u8) -> Action
     Action::Character(x, b)
 }
 
+// 7/15 does nothing in the primary and supplementary sets.
 fn delete(x: Repertoire) -> Action
     ensures { λ r. ⌜ r ≡ character x 127 ⌝ }
 {

@@ -1,6 +1,6 @@
 use borrow.Author.Needs.{needs}
 use Rattle.rules.specs.Coding.{afterEscape}
-use Rattle.tables.proofs.Rest.{no-escape}
+use Rattle.tables.proofs.Rest.{escape-otherwise}
 use Rattle.tables.proofs.escapes.after_escape.Statement.{statement}
 use Rattle.tables.proofs.escapes.after_escape.Tie as tie
 
@@ -13,4 +13,4 @@ after-escape-spec =
     (λ c. search needs)
     (λ c. search needs)
     (λ c. search needs)
-    (λ c. no-escape (c .before .args .w) (c .match .keys3)))
+    (λ c. escape-otherwise (c .before .args .w) (c .match .keys3)))

@@ -1,6 +1,6 @@
 use borrow.Author.Needs.{needs}
 use Rattle.rules.specs.Coding.{unfinished}
-use Rattle.tables.proofs.Rest.{is-inside}
+use Rattle.tables.proofs.Rest.{unfinished-otherwise}
 use Rattle.tables.proofs.escapes.unfinished.Statement.{statement}
 use Rattle.tables.proofs.escapes.unfinished.Tie as tie
 
@@ -13,4 +13,4 @@ unfinished-spec =
     (λ c. search needs)
     (λ c. search needs)
     (λ c. search needs)
-    (λ c. is-inside (c .before .args .w) (c .match .keys3)))
+    (λ c. unfinished-otherwise (c .before .args .w) (c .match .keys3)))

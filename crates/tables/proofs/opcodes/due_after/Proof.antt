@@ -1,7 +1,7 @@
 use mathlib.Core.Path.{_∙_}
 use borrow.Author.Needs.{needs}
 use Rattle.rules.specs.Drawing.{dueAfter}
-use Rattle.tables.proofs.Rest.{advances}
+use Rattle.tables.proofs.Rest.{due-otherwise}
 use Rattle.tables.proofs.opcodes.due_after.Statement.{statement}
 use Rattle.tables.proofs.opcodes.due_after.Tie as tie
 
@@ -21,4 +21,4 @@ due-after-spec =
     (λ c. search needs)
     (λ c. search needs)
     (λ c. search needs)
-    (λ c. c .advance .ensures ∙ advances (c .before .before .args .p) (c .before .before .args .n) (c .before .match .keys5)))
+    (λ c. c .advance .ensures ∙ due-otherwise (c .before .before .args .p) (c .before .before .args .n) (c .before .match .keys5)))

@@ -1,6 +1,6 @@
 use borrow.Author.Needs.{needs}
 use Rattle.rules.specs.Drawing.{lengthOf}
-use Rattle.tables.proofs.Rest.{multi-length}
+use Rattle.tables.proofs.Rest.{length-otherwise}
 use Rattle.tables.proofs.opcodes.length_of.Statement.{statement}
 use Rattle.tables.proofs.opcodes.length_of.Tie as tie
 
@@ -17,4 +17,4 @@ length-of-spec =
     (λ c. search needs)
     (λ c. search needs)
     (λ c. search needs)
-    (λ c. multi-length (c .before .args .r) (c .before .args .d) (c .match .keys5)))
+    (λ c. length-otherwise (c .before .args .r) (c .before .args .d) (c .match .keys5)))

@@ -1,6 +1,6 @@
 use borrow.Author.Needs.{needs}
 use Rattle.rules.specs.Ranges.{operandLength}
-use Rattle.tables.proofs.Rest.{multi-operand}
+use Rattle.tables.proofs.Rest.{operand-otherwise}
 use Rattle.tables.proofs.opcodes.operand_length.Statement.{statement}
 use Rattle.tables.proofs.opcodes.operand_length.Tie as tie
 
@@ -11,4 +11,4 @@ operand-length-spec =
     (tie.spec
     (λ c. search needs)
     (λ c. search needs)
-    (λ c. multi-operand (c .before .args .p) (c .before .args .d) (c .match .keys2)))
+    (λ c. operand-otherwise (c .before .args .p) (c .before .args .d) (c .match .keys2)))

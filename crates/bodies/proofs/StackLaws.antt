@@ -1,0 +1,62 @@
+-- Laws of the stack of bodies.
+-- Assumes nothing.
+use mathlib.Core.Path.{_≡_, refl, sym, ap, _∙_}
+use mathlib.Core.Bool.{Bool, true, false}
+use mathlib.Core.List.{List}
+use Prim.Native.Nat.{ℕ, zero, suc, _+_, _-_, _<_, _≤_}
+use native.Mathlib.Nat.{not-suc-le-zero}
+use native.Mathlib.Numerals.{add-one, sub-one}
+use borrow.Author.Tests.{le-leb, lt-leb}
+use lib.ListN.{length, getD, set, drop, drop-of-length-le}
+use lib.Seq.{drop-cons}
+use Rattle.rules.specs.declared.Bodies.{Bodies}
+use Rattle.rules.specs.declared.Cursor.{Cursor}
+use Rattle.rules.specs.Choice.{pick}
+use Rattle.rules.specs.Bodies.{bodyAt, withBody, hasLeft, depthLeft, pushed}
+use Rattle.rules.specs.Ranges.{placesFit}
+use Rattle.rules.proofs.Bools.{pick-yes, pick-no}
+use Rattle.bodies.specs.Stack.{bodiesOf}
+
+-- What `set_body` leaves is the rules' stack with that body, at any depth
+pub set-is-with : (d e i c p : ℕ) (cells places : List ℕ) → bodiesOf d (set cells i c) (set places i p) ≡ withBody d i (record { cell = c; place = p }) (bodiesOf e cells places)
+set-is-with d e i c p cells places = refl
+
+-- and at the depth, from a place of 0 on, the stack with a call begun
+pub set-is-pushed : (d c : ℕ) (cells places : List ℕ) → bodiesOf (suc d) (set cells d c) (set places d 0) ≡ pushed c (bodiesOf d cells places)
+set-is-pushed d c cells places = refl
+
+-- Removal: no body is left, the innermost has bytes left, it has none
+module _ (st : List ℕ) (y : Bodies) where
+  pub left-none : (d : ℕ) → d ≤ 0 → depthLeft st y d ≡ 0
+  unfolding depthLeft
+  left-none zero h = refl
+  left-none (suc d) h = absurd (not-suc-le-zero h)
+
+  left-at : (d : ℕ) → 0 < d → depthLeft st y d ≡ pick (hasLeft st (bodyAt y (d - 1))) d (depthLeft st y (d - 1))
+  unfolding depthLeft
+  left-at zero h = absurd (not-suc-le-zero h)
+  left-at (suc d) h = rw sub-one
+
+  module _ (d : ℕ) (some : 0 < d) {x : Cursor} {r : Bool} (e : x ≡ bodyAt y (d - 1)) (f : r ≡ hasLeft st x) where
+    left-by : depthLeft st y d ≡ pick r d (depthLeft st y (d - 1))
+    left-by = left-at d some ∙ ap (λ (t : Bool). pick t d (depthLeft st y (d - 1))) (sym (f ∙ ap (hasLeft st) e))
+
+    pub left-here : r ≡ true → depthLeft st y d ≡ d
+    left-here t = left-by ∙ pick-yes d _ t
+
+    pub left-below : r ≡ false → depthLeft st y d ≡ depthLeft st y (d - 1)
+    left-below t = left-by ∙ pick-no d _ t
+
+-- The places from one on: it is in range, or not
+module _ (ps : List ℕ) (i : ℕ) (h : i < length ps) where
+  pub fit-on : getD ps i 0 ≤ 30 → placesFit (drop i ps) ≡ placesFit (drop (i + 1) ps)
+  unfolding placesFit
+  fit-on le = rw (add-one, drop-cons ps i 0 h, le-leb (getD ps i 0) 30 le)
+
+  pub fit-not : 30 < getD ps i 0 → placesFit (drop i ps) ≡ false
+  unfolding placesFit
+  fit-not lt = rw (drop-cons ps i 0 h, lt-leb (getD ps i 0) 30 lt)
+
+pub fit-end : (ps : List ℕ) (i : ℕ) → length ps ≤ i → placesFit (drop i ps) ≡ true
+unfolding placesFit
+fit-end ps i h = rw (drop-of-length-le ps {i = i} h)

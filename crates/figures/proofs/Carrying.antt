@@ -1,0 +1,84 @@
+-- Outcomes carried out
+use mathlib.Core.Path.{_≡_, refl, sym, ap, _∙_}
+use mathlib.Core.Bool.{Bool, true, false}
+use mathlib.Core.List.{List, [], _∷_, _++_, append-nil}
+use Prim.Native.Nat.{ℕ, _+_, _*_, _≤_}
+use native.Mathlib.Nat.{add-zero, add-assoc}
+use native.Mathlib.Omega.{arith}
+use lib.ListN.{length, length-append}
+use Rattle.rules.specs.declared.Drawing.{Drawing}
+use Rattle.rules.specs.declared.Record.{Record}
+use Rattle.rules.specs.Record.{bytesOf, bytesOfAll}
+use Rattle.rules.specs.Drawing.{Outcome, Refuse, Draw, prepend, andThen}
+use Rattle.rules.proofs.RecordCount.{record-length, records-length, records-append, AtMost}
+use Rattle.records.specs.Bytes.{overwrite}
+use Rattle.records.proofs.Writes.{overwrite-none, overwrite-length, overwrite-next}
+use Rattle.figures.specs.Carried.{Carried, carry}
+
+-- No record: the place and the output are left
+pub carry-none : (e d : Drawing) (at : ℕ) (out : List ℕ) → carry (Draw e []) d at out ≡ record { refused = false; drawing = e; at = at; output = out }
+unfolding carry bytesOfAll
+carry-none e d at out = rw (add-zero, overwrite-none)
+
+-- One record: its 40 bytes at the place
+pub carry-one : (r : Record) (e d : Drawing) (at : ℕ) (out : List ℕ) → carry (Draw e (r ∷ [])) d at out ≡ record { refused = false; drawing = e; at = at + 40; output = overwrite at (bytesOf r) out }
+unfolding carry bytesOfAll
+carry-one r e d at out = rw (append-nil, record-length)
+
+-- Outcomes that are no refusals
+abbrev pub Draws : Outcome → Type 0
+Draws (Refuse r) = ⊥
+Draws (Draw d rs) = Unit {0}
+
+-- Of two outcomes, the second from where the first ended
+pub carry-then : (e : Drawing) (rs : List Record) (k : Drawing → Outcome) (d : Drawing) (at : ℕ) (out : List ℕ)
+    → at ≤ length out
+    → Draws (k e)
+    → carry (andThen (Draw e rs) k) d at out ≡ carry (k e) e (at + length (bytesOfAll rs)) (overwrite at (bytesOfAll rs) out)
+unfolding carry andThen
+carry-then e rs k d at out h p = by (k e) p
+  where
+    by : (o : Outcome) → Draws o → carry (prepend rs o) d at out ≡ carry o e (at + length (bytesOfAll rs)) (overwrite at (bytesOfAll rs) out)
+    by (Refuse r) q = absurd q
+    by (Draw f qs) q = rw (records-append, length-append, ← add-assoc at (length (bytesOfAll rs)) (length (bytesOfAll qs)), overwrite-next (bytesOfAll rs) (bytesOfAll qs) out at h)
+
+module _ (o : Outcome) (k : Drawing → Outcome) (d : Drawing) (at : ℕ) (out : List ℕ) where
+  -- A refusal ends both
+  pub then-refused : (a : Carried) → a ≡ carry o d at out → a .refused ≡ true → a ≡ carry (andThen o k) d at out
+  unfolding carry andThen
+  then-refused a e t = by o e
+    where
+      by : (x : Outcome) → a ≡ carry x d at out → a ≡ carry (andThen x k) d at out
+      by (Refuse r) f = f
+      by (Draw e rs) f = let z : true ≡ false = sym t ∙ ap (λ (y : Carried). y .refused) f in cc
+
+  -- Where the first draws, the second goes on from its answer
+  pub then-drawn : (a b : Carried)
+      → a ≡ carry o d at out
+      → a .refused ≡ false
+      → at ≤ length out
+      → Draws (k (a .drawing))
+      → b ≡ carry (k (a .drawing)) (a .drawing) (a .at) (a .output)
+      → b ≡ carry (andThen o k) d at out
+  unfolding carry
+  then-drawn a b e t h p f = by o e
+    where
+      by : (x : Outcome) → a ≡ carry x d at out → b ≡ carry (andThen x k) d at out
+      by (Refuse r) g = let z : true ≡ false = sym (ap (λ (y : Carried). y .refused) g) ∙ t in cc
+      by (Draw e rs) g =
+          let ed = ap (λ (y : Carried). y .drawing) g in
+          f
+          ∙ ap (λ (y : Carried). carry (k (y .drawing)) (y .drawing) (y .at) (y .output)) g
+          ∙ sym (carry-then e rs k d at out h (rw ed at p))
+
+-- The place after at most n records
+pub carry-most : (n : ℕ) (o : Outcome) (d : Drawing) (at : ℕ) (out : List ℕ) → AtMost n o → carry o d at out .at ≤ at + 40 * n
+unfolding carry
+carry-most n (Refuse r) d at out p = omega arith
+carry-most n (Draw e rs) d at out p = omega (arith, records-length rs)
+
+-- The output keeps its length where the records fit
+pub carry-length : (n : ℕ) (o : Outcome) (d : Drawing) (at : ℕ) (out : List ℕ) → AtMost n o → at + 40 * n ≤ length out → length (carry o d at out .output) ≡ length out
+unfolding carry
+carry-length n (Refuse r) d at out p h = refl
+carry-length n (Draw e rs) d at out p h = overwrite-length (bytesOfAll rs) out at (omega (arith, records-length rs))

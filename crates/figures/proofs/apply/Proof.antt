@@ -1,0 +1,55 @@
+use Rattle.rules.specs.Drawing.{apply}
+use borrow.Author.Needs.{needs}
+use Rattle.figures.proofs.apply.Statement.{statement}
+use Rattle.figures.proofs.apply.Tie as tie
+
+pub apply-spec : {M : Type 1} → statement M
+unfolding apply
+apply-spec =
+    tie.close
+    (tie.spec
+    (λ c κs. search needs)
+    (λ c. search needs)
+    (λ c κs. search needs)
+    (λ c. search needs)
+    (λ c κs. search needs)
+    (λ c. search needs)
+    (λ c κs. search needs)
+    (λ c. search needs)
+    (λ c κs. search needs)
+    (λ c. search needs)
+    (λ c κs. search needs)
+    (λ c. search needs)
+    (λ c κs. search needs)
+    (λ c. search needs)
+    (λ c κs. search needs)
+    (λ c. search needs)
+    (λ c κs. search needs)
+    (λ c. search needs)
+    (λ c κs. search needs)
+    (λ c. search needs)
+    (λ c κs. search needs)
+    (λ c. search needs)
+    (λ c κs. search needs)
+    (λ c. search needs)
+    (λ c κs. search needs)
+    (λ c. search needs)
+    (λ c κs. search needs)
+    (λ c. rw (c .before .enum-told .given .1, ← c .before .before .before .point-of .ensures) (c .move-to .ensures _ _))
+    (λ c. search needs)
+    (λ c. rw (c .before .before .before .before .enum-told2 .given .1, ← c .before .before .before .before .before .before .point-of .ensures) (c .before .before .draw-to .ensures _))
+    (λ c. search needs)
+    (λ c. rw (c .before .before .before .before .enum-told3 .given .1, ← c .before .before .before .before .before .before .point-of .ensures) (c .before .before .draw-by .ensures _))
+    (λ c. rw (c .before .enum-told4 .given .1, ← c .before .before .before .point-of .ensures) (c .arc-middle .ensures _ _))
+    (λ c. search needs)
+    (λ c. rw (c .before .before .before .before .enum-told5 .given .1, ← c .before .before .before .before .before .before .point-of .ensures) (c .before .before .arc-by .ensures _))
+    (λ c. rw (c .before .enum-told6 .given .1, ← c .before .before .before .point-of .ensures) (c .start-at .ensures _ _))
+    (λ c. search needs)
+    (λ c. rw (c .before .before .before .before .enum-told7 .given .1, ← c .before .before .before .before .before .before .point-of .ensures) (c .before .before .edge-by .ensures _))
+    (λ c. rw (c .before .enum-told8 .given .1) (c .set-lengths .ensures _ _))
+    (λ c. rw (c .before .enum-told9 .given .1, ← c .before .before .before .point-of .ensures) (c .set-pel .ensures _ _))
+    (λ c. rw (c .before .enum-told10 .given .1) (c .set-foreground .ensures _ _))
+    (λ c. rw (c .before .enum-told11 .given .1) (c .set-background .ensures _ _))
+    (λ c. search needs)
+    (λ c. rw (c .before .before .before .before .before .enum-told12 .given .1) (c .before .before .set-shade .ensures))
+    (λ c. rw (c .before .enum-told13 .given .1) (c .no-record .ensures _ _)))
