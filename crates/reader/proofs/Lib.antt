@@ -1,3 +1,4 @@
+pub mod Standin
 pub mod Turns
 pub mod Whole
 pub mod StepLaws

@@ -4,15 +4,11 @@ use mathlib.Core.List.{List}
 use mathlib.Core.Path.{_≡_}
 use Rattle.rules.specs.declared.Sets.{Sets}
 use Rattle.rules.specs.declared.Waiting.{Waiting}
-use Rattle.rules.specs.declared.Bodies.{Bodies}
 use Rattle.rules.specs.declared.Coding.{Coding}
 use Rattle.rules.specs.Coding.{Reaction, Refuse, Call, React}
 use Rattle.reader.specs.declared.stub.Effect.{Effect}
 use Rattle.reader.specs.declared.stub.Effect.the-variants.{Refuses, Calls, Acts}
 use Rattle.reader.specs.declared.stub.Reacted.{Reacted}
-
-abbrev pub bodiesOf : ℕ → List ℕ → List ℕ → Bodies
-bodiesOf depth cells places = record { depth = depth; cells = cells; places = places }
 
 abbrev pub codingOf : Sets → Waiting → List ℕ → Coding
 codingOf s w f = record { sets = s; waiting = w; firsts = f }

@@ -69,9 +69,12 @@ readOn (suc i) x y = withBody (suc i) i x y
 abbrev pub advanced : ℕ → Cursor → State → State
 advanced d x w = withBodies (readOn d x (w .session .bodies)) w
 
--- What a byte comes to that is read at a depth
+-- A step at a depth, by what it does once its body is read on
+abbrev pub stepBy : ℕ → Cursor → (State → Move) → State → Turn
+stepBy d x move w = onMove (move (advanced d x w)) (sourceAt d) w
+
 unfoldable pub interpreted : ℕ → Cursor → ℕ → State → Turn
-interpreted d x b w = onMove (interpret (advanced d x w) (sourceAt d) b) (sourceAt d) w
+interpreted d x b w = stepBy d x (λ v. interpret v (sourceAt d) b) w
 
 -- What a turn leaves, at a place of the piece and of the output
 pub record Left : Type 0 where

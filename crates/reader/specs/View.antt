@@ -10,7 +10,8 @@ use Rattle.rules.specs.declared.Answer.the-variants.{Done, Full, Refused}
 use Rattle.rules.specs.Step.{State, stateOf, withStatus}
 use Rattle.rules.specs.Reading.{consumedBy}
 use Rattle.figures.specs.Carried.{drawingOf}
-use Rattle.reader.specs.Stub.{bodiesOf, codingOf}
+use Rattle.bodies.specs.Stack.{bodiesOf}
+use Rattle.reader.specs.Stub.{codingOf}
 use Rattle.reader.specs.Turn.{sourceAt, Left}
 use Rattle.reader.specs.declared.step.Course.{Course}
 use Rattle.reader.specs.declared.step.Course.the-variants.{GoesOn, Ends}

@@ -1,8 +1,9 @@
 // One step: a byte that was read is interpreted. All that can refuse it comes before the first change.
+use bodies::MOST_DEPTH;
+use bodies::set_body;
 use crate::stub::Effect;
 use crate::stub::act;
 use crate::stub::react;
-use crate::stub::set_body;
 use macros::names::first_of;
 use rules::Action;
 use rules::Answer;
@@ -25,11 +26,10 @@ ghost use Rattle.rules.specs.Reading.{consumedBy};
 ghost use Rattle.rules.specs.Step.{onOutcome, call, opensInside};
 ghost use Rattle.macros.specs.Lent.{Sized, IsName};
 ghost use Rattle.figures.specs.Carried.{drawingOf};
-ghost use Rattle.reader.specs.Stub.{bodiesOf, codingOf};
-ghost use Rattle.reader.specs.Turn.{onMove, sourceAt, readOn, advanced, interpreted, leaves};
+ghost use Rattle.bodies.specs.Stack.{bodiesOf};
+ghost use Rattle.reader.specs.Stub.{codingOf};
+ghost use Rattle.reader.specs.Turn.{sourceAt, readOn, stepBy, interpreted, leaves};
 ghost use Rattle.reader.specs.View.{stateAt, leftOf, Ready};
-
-const MOST_DEPTH: u8 = 8;
 
 // Where a reading stands between two steps. The arrays of its state are lent beside it.
 pub struct Progress {
@@ -93,7 +93,7 @@ fn call(
     firsts: &[u8; 96],
 ) -> Turned
     requires { ⌜ (Ready progress after) × (IsName name) ⌝ }
-    ensures { λ r. ⌜ ((budget : ℕ) (map st out : List ℕ) → let w = stateAt budget progress (now (cells .entry)) (now (places .entry)) (now (firsts .entry)) map st in leftOf budget r (now (cells .exit)) (now (places .exit)) (now (firsts .entry)) map st out ≡ leaves (onMove (call name (codingOf sets waiting (now (firsts .entry))) (advanced (progress .depth) cursor w)) (sourceAt (progress .depth)) w) (progress .at) (progress .written) out) ⌝ }
+    ensures { λ r. ⌜ ((budget : ℕ) (map st out : List ℕ) → let w = stateAt budget progress (now (cells .entry)) (now (places .entry)) (now (firsts .entry)) map st in leftOf budget r (now (cells .exit)) (now (places .exit)) (now (firsts .entry)) map st out ≡ leaves (stepBy (progress .depth) cursor (call name (codingOf sets waiting (now (firsts .entry)))) w) (progress .at) (progress .written) out) ⌝ }
 {
     let depth = progress.depth;
     if MOST_DEPTH <= depth {
@@ -134,7 +134,7 @@ fn draw(
     out: &mut [u8],
 ) -> Turned
     requires { ⌜ (Ready progress after) × (drawingFits (drawingOf (progress .pen) (progress .command) (progress .look) (now map)) ≡ true) × (progress .written + 120 ≤ length (now out)) ⌝ }
-    ensures { λ r. ⌜ ((budget : ℕ) (firsts st : List ℕ) → let w = stateAt budget progress (now (cells .entry)) (now (places .entry)) firsts (now (map .entry)) st in leftOf budget r (now (cells .exit)) (now (places .exit)) firsts (now (map .exit)) st (now (out .exit)) ≡ leaves (onMove (onOutcome (act action (w .session .drawing)) (codingOf sets waiting firsts) st (advanced (progress .depth) cursor w)) (sourceAt (progress .depth)) w) (progress .at) (progress .written) (now (out .entry))) ⌝ }
+    ensures { λ r. ⌜ ((budget : ℕ) (firsts st : List ℕ) → let w = stateAt budget progress (now (cells .entry)) (now (places .entry)) firsts (now (map .entry)) st in leftOf budget r (now (cells .exit)) (now (places .exit)) firsts (now (map .exit)) st (now (out .exit)) ≡ leaves (stepBy (progress .depth) cursor (onOutcome (act action (w .session .drawing)) (codingOf sets waiting firsts) st) w) (progress .at) (progress .written) (now (out .entry))) ⌝ }
 {
     let pen = progress.pen;
     let command = progress.command;

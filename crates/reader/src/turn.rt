@@ -1,10 +1,10 @@
 // One turn of a reading: spent bodies are removed, then the checks in their order, then a step.
+use bodies::depth_left;
+use bodies::innermost;
 use crate::step::Progress;
 use crate::step::Turned;
 use crate::step::ends;
 use crate::step::interpret;
-use crate::stub::depth_left;
-use crate::stub::innermost;
 use rules::Answer;
 use rules::Cursor;
 use rules::Read;
@@ -15,7 +15,7 @@ ghost use lib.ListN.{length, drop};
 ghost use Rattle.rules.specs.Reading.{consumedBy};
 ghost use Rattle.macros.specs.Lent.{Sized};
 ghost use Rattle.rules.proofs.Steps.{Valid};
-ghost use Rattle.reader.specs.Stub.{bodiesOf};
+ghost use Rattle.bodies.specs.Stack.{bodiesOf};
 ghost use Rattle.reader.specs.Turn.{turn, nothingLeft, nextByte, sourceAt, leaves};
 ghost use Rattle.reader.specs.View.{stateAt, leftOf};
 

@@ -1,5 +1,5 @@
 // The tests that come before a feed or an end: 12, then 14, stopped, 13.
-use crate::stub::bodies_fit;
+use bodies::bodies_fit;
 use crate::stub::drawing_fits;
 use crate::stub::waiting_fits;
 use rules::Refusal;

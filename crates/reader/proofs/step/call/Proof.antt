@@ -6,7 +6,7 @@ use Rattle.reader.proofs.step.call.Lts as lts
 use Rattle.macros.proofs.names.first_of.Reads as first-of-reads
 use Rattle.reader.proofs.step.ends.Reads as ends-reads
 use Rattle.reader.proofs.step.read_on.Reads as read-on-reads
-use Rattle.reader.proofs.stub.set_body.Reads as set-body-reads
+use Rattle.bodies.proofs.set_body.Reads as set-body-reads
 
 -- src/step.rt:100:9
 ends-requires : tie.Need-ends-requires

@@ -3,7 +3,7 @@ use Rattle.reader.proofs.step.read_on.Statement.{statement}
 use Rattle.reader.proofs.step.read_on.Tie as tie
 use Rattle.reader.proofs.step.read_on.Reads as reads
 use Rattle.reader.proofs.step.read_on.Lts as lts
-use Rattle.reader.proofs.stub.set_body.Reads as set-body-reads
+use Rattle.bodies.proofs.set_body.Reads as set-body-reads
 
 -- src/step.rt:79:9
 returns : tie.Need-returns

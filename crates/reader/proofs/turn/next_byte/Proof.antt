@@ -3,7 +3,7 @@ use Rattle.reader.proofs.turn.next_byte.Statement.{statement}
 use Rattle.reader.proofs.turn.next_byte.Tie as tie
 use Rattle.reader.proofs.turn.next_byte.Reads as reads
 use Rattle.reader.proofs.turn.next_byte.Lts as lts
-use Rattle.reader.proofs.stub.innermost.Reads as innermost-reads
+use Rattle.bodies.proofs.innermost.Reads as innermost-reads
 
 -- src/turn.rt:44:27
 shared-slice-read-t9 : tie.Need-shared-slice-read-t9

@@ -5,7 +5,7 @@ use Rattle.reader.proofs.turn.turn.Reads as reads
 use Rattle.reader.proofs.turn.turn.Lts as lts
 use Rattle.reader.proofs.step.ends.Reads as ends-reads
 use Rattle.reader.proofs.step.interpret.Reads as interpret-reads
-use Rattle.reader.proofs.stub.depth_left.Reads as depth-left-reads
+use Rattle.bodies.proofs.depth_left.Reads as depth-left-reads
 use Rattle.reader.proofs.turn.at_depth.Reads as at-depth-reads
 use Rattle.reader.proofs.turn.next_byte.Reads as next-byte-reads
 use Rattle.reader.proofs.turn.nothing_left.Reads as nothing-left-reads

@@ -3,7 +3,7 @@ use Rattle.reader.proofs.verdict.fits.Statement.{statement}
 use Rattle.reader.proofs.verdict.fits.Tie as tie
 use Rattle.reader.proofs.verdict.fits.Reads as reads
 use Rattle.reader.proofs.verdict.fits.Lts as lts
-use Rattle.reader.proofs.stub.bodies_fit.Reads as bodies-fit-reads
+use Rattle.bodies.proofs.bodies_fit.Reads as bodies-fit-reads
 use Rattle.reader.proofs.stub.drawing_fits.Reads as drawing-fits-reads
 use Rattle.reader.proofs.stub.waiting_fits.Reads as waiting-fits-reads
 
