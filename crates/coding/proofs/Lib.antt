@@ -1,0 +1,4 @@
+pub mod Answers
+pub mod DefinitionLaws
+pub mod ReactLaws
+pub mod EffectLaws

@@ -1,0 +1,31 @@
+use Rattle.rules.specs.Coding.{designation}
+use borrow.Author.Needs.{needs}
+use Rattle.coding.proofs.escapes.designation.Statement.{statement}
+use Rattle.coding.proofs.escapes.designation.Tie as tie
+
+returns : tie.Need-returns
+unfolding designation
+returns c =
+    let enum-told· = c .before .enum-told in
+    let act· = c .act in
+    λ f st. rw (enum-told· .given .1) (act· .ensures f st)
+
+returns-2 : tie.Need-returns-2
+unfolding designation
+returns-2 c =
+    let designated· = c .before .before .before .designated in
+    let designate· = c .before .designate in
+    let act2· = c .act2 in
+    λ f st. rw (designated· .given .1, ← designate· .ensures) (act2· .ensures f st)
+
+pub designation-spec : {M : Type 1} → statement M
+designation-spec =
+    tie.close
+    (tie.spec
+    (λ c. search needs)
+    (λ c κs. search needs)
+    (λ c. search needs)
+    (λ c κs. search needs)
+    (λ c κs. search needs)
+    returns
+    returns-2)

@@ -1,0 +1,44 @@
+-- What the functions of the coding layer are handed and answer, as the rules have it
+use Prim.Native.Nat.{ℕ}
+use mathlib.Core.List.{List}
+use mathlib.Core.Path.{_≡_}
+use Rattle.rules.specs.declared.Element.{Element}
+use Rattle.rules.specs.declared.Sets.{Sets}
+use Rattle.rules.specs.declared.Waiting.{Waiting}
+use Rattle.rules.specs.declared.Waiting.the-variants.{Nothing}
+use Rattle.rules.specs.declared.Class.{Class}
+use Rattle.rules.specs.declared.Class.the-variants.{Below, Column2, Above}
+use Rattle.rules.specs.declared.Coding.{Coding}
+use Rattle.rules.specs.Coding.{Reaction, Refuse, Call, React, setOf, wait, control, graphic}
+use Rattle.coding.specs.declared.reactions.Effect.{Effect}
+use Rattle.coding.specs.declared.reactions.Effect.the-variants.{Refuses, Calls, Acts}
+use Rattle.coding.specs.declared.reactions.Reacted.{Reacted}
+
+-- The state in the parts that functions take, the first cells lent beside them
+abbrev pub codingOf : Sets → Waiting → List ℕ → Coding
+codingOf s w f = record { sets = s; waiting = w; firsts = f }
+
+-- An effect with the state and the store left
+abbrev pub effectOn : Effect → Coding → List ℕ → Reaction
+effectOn (Refuses r) c st = Refuse r
+effectOn (Calls n) c st = Call c n
+effectOn (Acts a) c st = React c st a
+
+-- An answer with the first cells and the store left
+abbrev pub reactionOf : Reacted → List ℕ → List ℕ → Reaction
+reactionOf r f st = effectOn (r .effect) (codingOf (r .sets) (r .waiting) f) st
+
+-- "A refused step changes nothing", and a call neither: what is left is what was lent
+abbrev pub KeptBy : Effect → List ℕ → List ℕ → Type 0
+KeptBy (Refuses r) lent left = left ≡ lent
+KeptBy (Calls n) lent left = left ≡ lent
+KeptBy (Acts a) lent left = Unit
+
+abbrev pub Kept : Reacted → List ℕ → List ℕ → Type 0
+Kept r lent left = KeptBy (r .effect) lent left
+
+-- A byte that is read from a code element, shifted to or in use
+unfoldable pub readFrom : Element → Class → Coding → List ℕ → ℕ → Reaction
+readFrom e (Below k) c st b = control k (wait Nothing c) st b
+readFrom e Column2 c st b = graphic (setOf e (c .sets)) (wait Nothing c) st b
+readFrom e Above c st b = graphic (setOf e (c .sets)) (wait Nothing c) st b

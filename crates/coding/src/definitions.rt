@@ -1,0 +1,111 @@
+// A byte of a macro definition: its name, then the bytes that are stored.
+use crate::reactions::Reacted;
+use crate::reactions::refuse;
+use crate::reactions::wait_for;
+use macros::chains::FreeAnswer;
+use macros::chains::free_body;
+use macros::definitions::StoreAnswer;
+use macros::definitions::store_byte;
+use macros::escapes::store_escape_and;
+use macros::names::first_of;
+use macros::names::set_first;
+use rules::Definition;
+use rules::Inner;
+use rules::Refusal;
+use rules::Sets;
+use rules::Waiting;
+use tables::escapes::inner_of;
+ghost use lib.Dec.{eqb};
+ghost use mathlib.Core.List.{List};
+ghost use mathlib.Core.Path.{_≡_};
+ghost use Prim.Native.Nat.{ℕ, _≤_};
+ghost use Rattle.rules.specs.Coding.{keep, openBody, inBody, innerOf, inBodyEscape, classOf, reactTo};
+ghost use Rattle.macros.specs.Lent.{Sized, IsName};
+ghost use Rattle.macros.specs.Storing.{storingOf};
+ghost use Rattle.coding.specs.View.{codingOf, reactionOf, Kept};
+
+const ESC: u8 = 27;
+
+// Frees the old body of the name.
+fn open_body(sets: Sets, firsts: &mut [u8; 96], store: &mut [u8], name: u8) -> Reacted
+    requires { ⌜ (Sized (now store)) × (IsName name) ⌝ }
+    ensures reaction { λ r. ⌜ reactionOf r (now (firsts .exit)) (now (store .exit)) ≡ openBody name (codingOf sets Waiting.Name (now (firsts .entry))) (now (store .entry)) ⌝ }
+    ensures kept { λ r. ⌜ (Kept r (now (firsts .entry)) (now (firsts .exit))) × (Kept r (now (store .entry)) (now (store .exit))) ⌝ }
+{
+    match free_body(store, first_of(firsts, name)) {
+        FreeAnswer::Refused(refusal) => refuse(sets, refusal),
+        FreeAnswer::Done => {
+            set_first(firsts, name, 0);
+            wait_for(sets, Waiting::Body(Definition { name, last: 0 }))
+        }
+    }
+}
+
+pub fn take_name(sets: Sets, firsts: &mut [u8; 96], store: &mut [u8], byte: u8) -> Reacted
+    requires { ⌜ (Sized (now store)) × (byte ≤ 127) ⌝ }
+    ensures reaction { λ r. ⌜ reactionOf r (now (firsts .exit)) (now (store .exit)) ≡ reactTo Waiting.Name (classOf byte) (codingOf sets Waiting.Name (now (firsts .entry))) (now (store .entry)) byte ⌝ }
+    ensures kept { λ r. ⌜ (Kept r (now (firsts .entry)) (now (firsts .exit))) × (Kept r (now (store .entry)) (now (store .exit))) ⌝ }
+{
+    if byte < 32 {
+        return refuse(sets, Refusal::NameBelow);
+    }
+    open_body(sets, firsts, store, byte)
+}
+
+// The definition goes on after what was stored.
+fn keep_body(sets: Sets, answer: StoreAnswer) -> Reacted
+    ensures { λ r. ⌜ ((w : Waiting) (f g st : List ℕ) → reactionOf r f st ≡ keep Waiting.Body (storingOf answer f st) (codingOf sets w g)) ⌝ }
+{
+    match answer {
+        StoreAnswer::Refused(refusal) => refuse(sets, refusal),
+        StoreAnswer::Done(definition) => wait_for(sets, Waiting::Body(definition)),
+    }
+}
+
+// An ESC was read after what was stored.
+fn keep_escape(sets: Sets, answer: StoreAnswer) -> Reacted
+    ensures { λ r. ⌜ ((w : Waiting) (f g st : List ℕ) → reactionOf r f st ≡ keep Waiting.BodyEscape (storingOf answer f st) (codingOf sets w g)) ⌝ }
+{
+    match answer {
+        StoreAnswer::Refused(refusal) => refuse(sets, refusal),
+        StoreAnswer::Done(definition) => wait_for(sets, Waiting::BodyEscape(definition)),
+    }
+}
+
+pub fn in_body(
+    definition: Definition,
+    sets: Sets,
+    firsts: &mut [u8; 96],
+    store: &mut [u8],
+    byte: u8,
+) -> Reacted
+    requires { ⌜ (Sized (now store)) × (IsName (definition .name)) ⌝ }
+    ensures reaction { λ r. ⌜ reactionOf r (now (firsts .exit)) (now (store .exit)) ≡ inBody (eqb byte 27) definition (codingOf sets (Waiting.Body definition) (now (firsts .entry))) (now (store .entry)) byte ⌝ }
+    ensures kept { λ r. ⌜ (Kept r (now (firsts .entry)) (now (firsts .exit))) × (Kept r (now (store .entry)) (now (store .exit))) ⌝ }
+{
+    if byte == ESC {
+        return wait_for(sets, Waiting::BodyEscape(definition));
+    }
+    keep_body(sets, store_byte(store, firsts, definition, byte))
+}
+
+// The byte after an ESC in a definition.
+pub fn in_body_escape(
+    definition: Definition,
+    sets: Sets,
+    firsts: &mut [u8; 96],
+    store: &mut [u8],
+    byte: u8,
+) -> Reacted
+    requires { ⌜ (Sized (now store)) × (IsName (definition .name)) ⌝ }
+    ensures reaction { λ r. ⌜ reactionOf r (now (firsts .exit)) (now (store .exit)) ≡ inBodyEscape (innerOf byte) definition (codingOf sets (Waiting.BodyEscape definition) (now (firsts .entry))) (now (store .entry)) byte ⌝ }
+    ensures kept { λ r. ⌜ (Kept r (now (firsts .entry)) (now (firsts .exit))) × (Kept r (now (store .entry)) (now (store .exit))) ⌝ }
+{
+    match inner_of(byte) {
+        Inner::OpensNext => wait_for(sets, Waiting::Name),
+        Inner::Bars => refuse(sets, Refusal::Unsupported),
+        Inner::EndsBody => wait_for(sets, Waiting::Nothing),
+        Inner::StartsAfresh => keep_escape(sets, store_byte(store, firsts, definition, ESC)),
+        Inner::StoresBoth => keep_body(sets, store_escape_and(store, firsts, definition, byte)),
+    }
+}

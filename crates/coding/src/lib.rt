@@ -1,0 +1,56 @@
+// The coding layer: what a byte does by what is waited for. It asks an action of drawing, calls a macro or is refused.
+pub mod characters;
+pub mod definitions;
+pub mod escapes;
+pub mod ranges;
+pub mod reactions;
+
+use crate::characters::read_from;
+use crate::definitions::in_body;
+use crate::definitions::in_body_escape;
+use crate::definitions::take_name;
+use crate::escapes::in_designation;
+use crate::escapes::in_escape;
+use crate::escapes::in_longer;
+use crate::reactions::Reacted;
+use crate::reactions::refuse;
+use rules::Refusal;
+use rules::Sets;
+use rules::Waiting;
+use tables::sets::shifted_to;
+ghost use mathlib.Core.Path.{_≡_};
+ghost use mathlib.Core.Bool.{true};
+ghost use Rattle.rules.specs.Coding.{react};
+ghost use Rattle.rules.specs.Ranges.{waitingFits};
+ghost use Rattle.macros.specs.Lent.{Sized};
+ghost use Rattle.coding.specs.View.{codingOf, reactionOf, Kept};
+
+// A definition is stored as it is read. Where the byte is refused or calls a name, first cells and store stay as lent.
+pub fn react(
+    sets: Sets,
+    waiting: Waiting,
+    firsts: &mut [u8; 96],
+    store: &mut [u8],
+    byte: u8,
+) -> Reacted
+    requires { ⌜ (Sized (now store)) × (waitingFits waiting ≡ true) ⌝ }
+    ensures reaction { λ r. ⌜ reactionOf r (now (firsts .exit)) (now (store .exit)) ≡ react (codingOf sets waiting (now (firsts .entry))) (now (store .entry)) byte ⌝ }
+    ensures kept { λ r. ⌜ (Kept r (now (firsts .entry)) (now (firsts .exit))) × (Kept r (now (store .entry)) (now (store .exit))) ⌝ }
+{
+    if 127 < byte {
+        return refuse(sets, Refusal::ByteOver127);
+    }
+    match waiting {
+        Waiting::Nothing => {
+            let used = sets.used;
+            read_from(used, sets, byte)
+        }
+        Waiting::Shifted(shift) => read_from(shifted_to(shift), sets, byte),
+        Waiting::Escape => in_escape(sets, byte),
+        Waiting::Designator(element) => in_designation(element, sets, byte),
+        Waiting::Longer => in_longer(sets, byte),
+        Waiting::Name => take_name(sets, firsts, store, byte),
+        Waiting::Body(definition) => in_body(definition, sets, firsts, store, byte),
+        Waiting::BodyEscape(definition) => in_body_escape(definition, sets, firsts, store, byte),
+    }
+}
