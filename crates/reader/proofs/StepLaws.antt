@@ -35,7 +35,10 @@ use Rattle.records.proofs.Writes.{overwrite-none}
 use Rattle.figures.specs.declared.Drawn.{Drawn}
 use Rattle.figures.specs.Carried.{Carried, carry, drawingOf, carriedOf}
 use Rattle.bodies.specs.Stack.{bodiesOf}
-use Rattle.reader.specs.Stub.{codingOf}
+use Rattle.coding.specs.View.{codingOf, reactionOf, Kept}
+use Rattle.coding.specs.declared.reactions.Effect.the-variants.{Refuses, Calls, Acts}
+use Rattle.coding.specs.declared.reactions.Reacted.{Reacted}
+use Rattle.coding.proofs.EffectLaws.{act-kept}
 use Rattle.reader.specs.declared.step.Course.the-variants.{GoesOn, Ends as Ends·course}
 use Rattle.reader.specs.declared.step.Progress.{Progress}
 use Rattle.reader.specs.declared.step.Turned.{Turned}
@@ -44,23 +47,24 @@ use Rattle.reader.specs.View.{stateAt, leftOf}
 use Rattle.reader.proofs.Standin.{Vertices, act-vertices}
 
 -- 6 is for a byte from a body
-pub inside-none : (d : ℕ) (x : Waiting) (b : ℕ) → d ≤ 0 → opensInside (sourceAt d) x b ≡ false
+pub inside-none : (d : ℕ) (x : Waiting) (b : ℕ) → d ≡ 0 → false ≡ opensInside (sourceAt d) x b
 unfolding opensInside
-inside-none zero x b h = refl
-inside-none (suc i) x b h = absurd (not-suc-le-zero h)
+inside-none d x b h = rw h
 
-pub inside-some : (d : ℕ) (x : Waiting) (b : ℕ) → 0 < d → opensInside (sourceAt d) x b ≡ (afterEscape x && eqb b 64)
+pub inside-some : (d : ℕ) (x : Waiting) (b : ℕ) → (d ≡ 0 → ⊥) → (afterEscape x && eqb b 64) ≡ opensInside (sourceAt d) x b
 unfolding opensInside
-inside-some zero x b h = absurd (not-suc-le-zero h)
+inside-some zero x b h = absurd (h refl)
 inside-some (suc i) x b h = refl
 
 -- A body read on
 pub on-none : (d : ℕ) (x : Cursor) (y : Bodies) → d ≡ 0 → y ≡ readOn d x y
 on-none d x y h = rw h
 
-pub on-some : (d : ℕ) (x : Cursor) (y : Bodies) → (d ≡ 0 → ⊥) → withBody d (d - 1) x y ≡ readOn d x y
-on-some zero x y h = absurd (h refl)
-on-some (suc i) x y h = rw sub-one
+pub on-some : (d : ℕ) (x : Cursor) (cells places cells₁ places₁ : List ℕ) → (d ≡ 0 → ⊥)
+    → (cells₁ ≡ set cells (d - 1) (x .cell)) × (places₁ ≡ set places (d - 1) (x .place))
+    → bodiesOf d cells₁ places₁ ≡ readOn d x (bodiesOf d cells places)
+on-some zero x cells places cells₁ places₁ h e = absurd (h refl)
+on-some (suc i) x cells places cells₁ places₁ h e = rw (e .0, e .1, sub-one)
 
 on-depth : (d : ℕ) (x : Cursor) (y : Bodies) → y .depth ≡ d → readOn d x y .depth ≡ d
 on-depth zero x y h = h
@@ -82,11 +86,11 @@ module _ (budget : ℕ) (p : Progress) (cells places firsts map st out : List �
   abbrev before : State
   before = stateAt budget p cells places firsts map st
 
-  pub call-deep : mostDepth ≤ p .depth
-      → leftOf budget (stops p TooDeep) cells places firsts map st out
+  pub call-deep : (r : Turned) → r ≡ stops p TooDeep → mostDepth ≤ p .depth
+      → leftOf budget r cells places firsts map st out
       ≡ leaves (stepBy (p .depth) x (call name (codingOf s u firsts)) before) (p .at) (p .written) out
   unfolding call onMove leaves
-  call-deep h = rw (on-depth (p .depth) x (bodiesOf (p .depth) cells places) refl, le-ltb (p .depth) mostDepth h)
+  call-deep r e h = rw (e, on-depth (p .depth) x (bodiesOf (p .depth) cells places) refl, le-ltb (p .depth) mostDepth h)
 
   called : (y : Bodies) (cells₁ places₁ : List ℕ) (first after : ℕ) → bodiesOf (p .depth) cells₁ places₁ ≡ y → p .depth < mostDepth
       → first ≡ firstOf firsts name → after ≡ consumedBy (sourceAt (p .depth)) (p .at)
@@ -115,17 +119,17 @@ module _ (budget : ℕ) (p : Progress) (cells places firsts map st out : List �
   drawing = drawingOf (p .pen) (p .command) (p .look) map
 
   module _ (r : Drawn) (map₁ out₁ : List ℕ) (e : carriedOf r map₁ out₁ ≡ carry (act a drawing) drawing (p .written) out) where
-    pub draw-refused : r .refused ≡ true
-        → leftOf budget (stops p TooManyVertices) cells places firsts map₁ st out₁
+    pub draw-refused : (t : Turned) → t ≡ stops p TooManyVertices → r .refused ≡ true
+        → leftOf budget t cells places firsts map₁ st out₁
         ≡ leaves (stepBy (p .depth) x (onOutcome (act a drawing) (codingOf s u firsts) st) before·draw) (p .at) (p .written) out
     unfolding carry onOutcome onMove leaves
-    draw-refused t = by (act a drawing) e (act-vertices a drawing)
+    draw-refused t q n = rw q (by (act a drawing) e (act-vertices a drawing))
       where
         by : (o : Outcome) → carriedOf r map₁ out₁ ≡ carry o drawing (p .written) out → Vertices o
             → leftOf budget (stops p TooManyVertices) cells places firsts map₁ st out₁
             ≡ leaves (stepBy (p .depth) x (onOutcome o (codingOf s u firsts) st) before·draw) (p .at) (p .written) out
-        by (Refuse·drawing n) f v = rw (v, ap (λ (k : Carried). k .drawing .map) f, ap (λ (k : Carried). k .output) f)
-        by (Draw d rs) f v = false-true (sym (ap (λ (k : Carried). k .refused) f) ∙ t)
+        by (Refuse·drawing m) f v = rw (v, ap (λ (k : Carried). k .drawing .map) f, ap (λ (k : Carried). k .output) f)
+        by (Draw d rs) f v = false-true (sym (ap (λ (k : Carried). k .refused) f) ∙ n)
 
     pub draw-goes : (cells₁ places₁ : List ℕ) (after : ℕ) → r .refused ≡ false
         → bodiesOf (p .depth) cells₁ places₁ ≡ readOn (p .depth) x (bodiesOf (p .depth) cells places)
@@ -167,39 +171,48 @@ module _ (budget : ℕ) (p : Progress) (cells places firsts map st out : List �
   abbrev Answers : Left → Type 0
   Answers l = l ≡ leaves (interpreted (p .depth) x b entry) (p .at) (p .written) out
 
-  pub byte-inside : opensInside (sourceAt (p .depth)) (p .waiting) b ≡ true → Answers (leftOf budget (stops p DefinitionInBody) cells places firsts map st out)
+  pub byte-inside : (r : Turned) → r ≡ stops p DefinitionInBody → opensInside (sourceAt (p .depth)) (p .waiting) b ≡ true
+      → Answers (leftOf budget r cells places firsts map st out)
   unfolding interpreted interpret onMove leaves
-  byte-inside h = rw h
+  byte-inside r e h = rw (e, h)
 
-  module _ (h : opensInside (sourceAt (p .depth)) (p .waiting) b ≡ false) where
+  module _ (h : opensInside (sourceAt (p .depth)) (p .waiting) b ≡ false) (m : Reacted) (firsts₁ st₁ : List ℕ) (e : reactionOf m firsts₁ st₁ ≡ reaction) where
+    abbrev reacted : State
+    reacted = stateAt budget p cells places firsts₁ map st₁
+
     reacts : (c : Reaction) (l : Left) → c ≡ reaction → l ≡ leavesBy (onReaction c) entry → Answers l
     unfolding interpreted interpret
-    reacts c l e q = rw (h, ← e) q
+    reacts c l f q = rw (h, ← f) q
 
-    pub byte-refused : (r : Refusal) (firsts₁ st₁ : List ℕ) → Refuse r ≡ reaction → firsts₁ ≡ firsts → st₁ ≡ st
-        → Answers (leftOf budget (stops p r) cells places firsts₁ map st₁ out)
+    pub byte-refused : (x : Refusal) → m .effect ≡ Refuses x → (Kept m firsts firsts₁) × (Kept m st st₁) → (r : Turned) → r ≡ stops p x
+        → Answers (leftOf budget r cells places firsts₁ map st₁ out)
     unfolding onReaction onMove leaves
-    byte-refused r firsts₁ st₁ e f g = reacts (Refuse r) _ e (rw (f, g))
+    byte-refused x t k r q =
+        let f : firsts₁ ≡ firsts = rw t at (k .0) in
+        let g : st₁ ≡ st = rw t at (k .1) in
+        reacts (Refuse x) _ (rw t at e) (rw (q, f, g))
 
-    -- What is left is as lent, so the step was from there
-    module _ (firsts₁ st₁ : List ℕ) where
-      abbrev reacted : State
-      reacted = stateAt budget p cells places firsts₁ map st₁
+    -- First cells and store as lent: the step was from there
+    as-lent : (k : State → Move) → firsts₁ ≡ firsts → st₁ ≡ st → leavesBy k reacted ≡ leavesBy k entry
+    as-lent k f g = rw (f, g)
 
-      as-lent : (k : State → Move) → (firsts₁ ≡ firsts) × (st₁ ≡ st) → leavesBy k reacted ≡ leavesBy k entry
-      as-lent k e = rw (e .0, e .1)
+    pub byte-calls : (name : ℕ) → m .effect ≡ Calls name → (Kept m firsts firsts₁) × (Kept m st st₁) → (l : Left)
+        → l ≡ leavesBy (call name (codingOf (m .sets) (m .waiting) firsts₁)) reacted → Answers l
+    unfolding onReaction
+    byte-calls name t k l q =
+        let c = codingOf (m .sets) (m .waiting) firsts₁ in
+        reacts (Call c name) l (rw t at e) (q ∙ as-lent (call name c) (rw t at (k .0)) (rw t at (k .1)))
 
-      pub byte-calls : (c : Coding) (name : ℕ) (l : Left) → Call c name ≡ reaction → (firsts₁ ≡ firsts) × (st₁ ≡ st)
-          → l ≡ leavesBy (call name c) reacted → Answers l
-      unfolding onReaction
-      byte-calls c name l e k q = reacts (Call c name) l e (q ∙ as-lent (call name c) k)
+    -- An action that asks nothing of drawing is not refused, so the state before it does not matter
+    idle-anywhere : (a : Action) (d : Drawing) (c : Coding) → a ≡ Idle → leavesBy (onOutcome (act a d) c st₁) reacted ≡ leavesBy (onOutcome (act a d) c st₁) entry
+    unfolding act onOutcome onMove
+    idle-anywhere a d c k = rw k
 
-      idle-anywhere : (a : Action) (d : Drawing) (c : Coding) → a ≡ Idle → leavesBy (onOutcome (act a d) c st₁) reacted ≡ leavesBy (onOutcome (act a d) c st₁) entry
-      unfolding act onOutcome onMove
-      idle-anywhere a d c k = rw k
-
-      pub byte-acts : (c : Coding) (a : Action) (l : Left) → React c st₁ a ≡ reaction → ((firsts₁ ≡ firsts) × (st₁ ≡ st)) ⊎ (a ≡ Idle)
-          → l ≡ leavesBy (onOutcome (act a (entry .session .drawing)) c st₁) reacted → Answers l
-      unfolding onReaction
-      byte-acts c a l e (inl k) q = reacts (React c st₁ a) l e (q ∙ as-lent (onOutcome (act a (entry .session .drawing)) c st₁) k)
-      byte-acts c a l e (inr k) q = reacts (React c st₁ a) l e (q ∙ idle-anywhere a (entry .session .drawing) c k)
+    pub byte-acts : (a : Action) → m .effect ≡ Acts a → (l : Left)
+        → l ≡ leavesBy (onOutcome (act a (entry .session .drawing)) (codingOf (m .sets) (m .waiting) firsts₁) st₁) reacted → Answers l
+    unfolding onReaction
+    byte-acts a t l q = by (act-kept (codingOf (p .sets) (p .waiting) firsts) st b m firsts₁ st₁ e a t)
+      where
+        by : ((firsts₁ ≡ firsts) × (st₁ ≡ st)) ⊎ (a ≡ Idle) → Answers l
+        by (inl k) = reacts (React (codingOf (m .sets) (m .waiting) firsts₁) st₁ a) l (rw t at e) (q ∙ as-lent (onOutcome (act a (entry .session .drawing)) (codingOf (m .sets) (m .waiting) firsts₁) st₁) (k .0) (k .1))
+        by (inr k) = reacts (React (codingOf (m .sets) (m .waiting) firsts₁) st₁ a) l (rw t at e) (q ∙ idle-anywhere a (entry .session .drawing) (codingOf (m .sets) (m .waiting) firsts₁) k)

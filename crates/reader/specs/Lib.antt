@@ -1,4 +1,3 @@
-pub mod Stub
 pub mod Turn
 pub mod View
 pub mod Handing

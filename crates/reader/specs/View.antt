@@ -11,7 +11,7 @@ use Rattle.rules.specs.Step.{State, stateOf, withStatus}
 use Rattle.rules.specs.Reading.{consumedBy}
 use Rattle.figures.specs.Carried.{drawingOf}
 use Rattle.bodies.specs.Stack.{bodiesOf}
-use Rattle.reader.specs.Stub.{codingOf}
+use Rattle.coding.specs.View.{codingOf}
 use Rattle.reader.specs.Turn.{sourceAt, Left}
 use Rattle.reader.specs.declared.step.Course.{Course}
 use Rattle.reader.specs.declared.step.Course.the-variants.{GoesOn, Ends}
@@ -22,6 +22,36 @@ abbrev pub stateAt : ℕ → Progress → List ℕ → List ℕ → List ℕ →
 stateAt budget p cells places firsts map st =
     stateOf budget (p .steps) Running (bodiesOf (p .depth) cells places) (codingOf (p .sets) (p .waiting) firsts)
     (drawingOf (p .pen) (p .command) (p .look) map) st
+
+-- Where a reading starts from a session
+abbrev pub startOf : Session → Progress
+startOf s =
+    record {
+      at = 0;
+      written = 0;
+      steps = s .steps;
+      depth = s .bodies .depth;
+      sets = s .coding .sets;
+      waiting = s .coding .waiting;
+      pen = s .drawing .pen;
+      command = s .drawing .command;
+      look = s .drawing .look;
+    }
+
+-- With spent bodies removed
+abbrev pub atDepth : ℕ → Progress → Progress
+atDepth d p =
+    record {
+      at = p .at;
+      written = p .written;
+      steps = p .steps;
+      depth = d;
+      sets = p .sets;
+      waiting = p .waiting;
+      pen = p .pen;
+      command = p .command;
+      look = p .look;
+    }
 
 -- "A refused step changes nothing but the stop"
 abbrev pub answered : Answer → State → State

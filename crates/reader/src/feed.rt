@@ -16,7 +16,7 @@ ghost use lib.ListN.{length};
 ghost use Rattle.rules.specs.Reading.{Room, reading};
 ghost use Rattle.rules.specs.Calls.{handed, feed};
 ghost use Rattle.rules.proofs.Steps.{Valid};
-ghost use Rattle.reader.specs.View.{stateAt, statusAfter, sessionAfter};
+ghost use Rattle.reader.specs.View.{startOf, statusAfter, sessionAfter};
 ghost use Rattle.reader.specs.Handing.{stateLent, handedOf};
 
 pub struct Fed {
@@ -27,7 +27,7 @@ pub struct Fed {
 }
 
 fn start(session: Session) -> Progress
-    ensures { λ r. ⌜ r ≡ record { at = 0; written = 0; steps = session .steps; depth = session .bodies .depth; sets = session .coding .sets; waiting = session .coding .waiting; pen = session .drawing .pen; command = session .drawing .command; look = session .drawing .look } ⌝ }
+    ensures { λ r. ⌜ r ≡ startOf session ⌝ }
 {
     let bodies = session.bodies;
     let coding = session.coding;

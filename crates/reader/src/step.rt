@@ -1,9 +1,9 @@
 // One step: a byte that was read is interpreted. All that can refuse it comes before the first change.
 use bodies::MOST_DEPTH;
 use bodies::set_body;
-use crate::stub::Effect;
+use coding::react;
+use coding::reactions::Effect;
 use crate::stub::act;
-use crate::stub::react;
 use macros::names::first_of;
 use rules::Action;
 use rules::Answer;
@@ -27,7 +27,7 @@ ghost use Rattle.rules.specs.Step.{onOutcome, call, opensInside};
 ghost use Rattle.macros.specs.Lent.{Sized, IsName};
 ghost use Rattle.figures.specs.Carried.{drawingOf};
 ghost use Rattle.bodies.specs.Stack.{bodiesOf};
-ghost use Rattle.reader.specs.Stub.{codingOf};
+ghost use Rattle.coding.specs.View.{codingOf};
 ghost use Rattle.reader.specs.Turn.{sourceAt, readOn, stepBy, interpreted, leaves};
 ghost use Rattle.reader.specs.View.{stateAt, leftOf, Ready};
 
@@ -67,7 +67,10 @@ pub fn ends(progress: Progress, answer: Answer) -> Turned
 fn opens_inside(depth: u8, waiting: Waiting, byte: u8) -> bool
     ensures { λ r. ⌜ r ≡ opensInside (sourceAt depth) waiting byte ⌝ }
 {
-    0 < depth && after_escape(waiting) && byte == 64
+    if depth == 0 {
+        return false;
+    }
+    after_escape(waiting) && byte == 64
 }
 
 // The innermost body goes on at the cursor. Without a body there is none to keep.

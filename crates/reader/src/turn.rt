@@ -17,7 +17,7 @@ ghost use Rattle.macros.specs.Lent.{Sized};
 ghost use Rattle.rules.proofs.Steps.{Valid};
 ghost use Rattle.bodies.specs.Stack.{bodiesOf};
 ghost use Rattle.reader.specs.Turn.{turn, nothingLeft, nextByte, sourceAt, leaves};
-ghost use Rattle.reader.specs.View.{stateAt, leftOf};
+ghost use Rattle.reader.specs.View.{stateAt, atDepth, leftOf};
 
 // The most that the records of one step take.
 const ROOM_FOR_STEP: usize = 120;
@@ -55,7 +55,7 @@ fn place_after(depth: u8, at: usize) -> usize
 }
 
 fn at_depth(progress: Progress, depth: u8) -> Progress
-    ensures { λ r. ⌜ r ≡ record { at = progress .at; written = progress .written; steps = progress .steps; depth = depth; sets = progress .sets; waiting = progress .waiting; pen = progress .pen; command = progress .command; look = progress .look } ⌝ }
+    ensures { λ r. ⌜ r ≡ atDepth depth progress ⌝ }
 {
     let mut progress = progress;
     progress.depth = depth;

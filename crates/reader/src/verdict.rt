@@ -1,7 +1,7 @@
 // The tests that come before a feed or an end: 12, then 14, stopped, 13.
 use bodies::bodies_fit;
+use coding::ranges::waiting_fits;
 use crate::stub::drawing_fits;
-use crate::stub::waiting_fits;
 use rules::Refusal;
 use rules::Session;
 use rules::Status;
@@ -26,7 +26,10 @@ fn fits(session: Session) -> bool
     let pen = drawing.pen;
     let command = drawing.command;
     let look = drawing.look;
-    bodies_fit(bodies.depth, &places) && waiting_fits(waiting) && drawing_fits(pen, command, look)
+    if !bodies_fit(bodies.depth, &places) {
+        return false;
+    }
+    waiting_fits(waiting) && drawing_fits(pen, command, look)
 }
 
 fn in_range(session: Session) -> Verdict

@@ -1,3 +1,7 @@
+use Rattle.reader.proofs.VerdictLaws.{feed-fails, feed-valid, feed-passes}
+use Rattle.rules.specs.Reading.{tests}
+use denote.Ref.{now}
+use mathlib.Core.Path.{_∙_}
 use borrow.Author.Needs.{needs}
 use Rattle.reader.proofs.feed.feed.Statement.{statement}
 use Rattle.reader.proofs.feed.feed.Tie as tie
@@ -20,11 +24,21 @@ enum-told c = search needs
 
 -- src/feed.rt:154:28
 read-requires : tie.Need-read-requires
-read-requires c κs = ?
+unfolding tests
+read-requires c κs =
+    let args· = c .before .before .before .before .before .before .before .before .args in
+    let verdict· = c .before .before .before .before .verdict in
+    let enum-told· = c .before .before .enum-told in
+    feed-valid (args· .session) (now (args· .store)) (now (args· .piece)) (now (args· .out)) (verdict· .result) (verdict· .ensures) (enum-told· .given .1)
 
 -- src/feed.rt:144:1
 returns : tie.Need-returns
-returns c = ?
+unfolding tests
+returns c =
+    let args· = c .before .before .before .before .before .before .before .args in
+    let verdict· = c .before .before .before .verdict in
+    let refusal· = c .before .refusal in
+    feed-fails (args· .session) (now (args· .store)) (now (args· .piece)) (now (args· .out)) (verdict· .result) (verdict· .ensures) _ (refusal· .given .1)
 
 -- src/feed.rt:144:1
 same-length : tie.Need-same-length
@@ -36,7 +50,13 @@ same-length-2 c = search needs
 
 -- src/feed.rt:144:1
 returns-2 : tie.Need-returns-2
-returns-2 c = ?
+unfolding tests
+returns-2 c =
+    let read· = c .before .before .before .before .read in
+    let args· = c .before .before .before .before .before .before .before .before .before .before .before .before .before .args in
+    let verdict· = c .before .before .before .before .before .before .before .before .before .verdict in
+    let enum-told· = c .before .before .before .before .before .before .before .enum-told in
+    read· .ensures ∙ feed-passes (args· .session) (now (args· .store)) (now (args· .piece)) (now (args· .out)) (verdict· .result) (verdict· .ensures) (enum-told· .given .1)
 
 pub feed-spec : {M : Type 1} → statement M
 feed-spec =

@@ -11,7 +11,9 @@ status-after-requires c κs = search needs
 
 -- src/feed.rt:64:1
 returns : tie.Need-returns
-returns c = ?
+returns c =
+    let status-after· = c .status-after in
+    rw (status-after· .ensures)
 
 pub finish-spec : {M : Type 1} → statement M
 finish-spec = tie.close (tie.spec status-after-requires returns)

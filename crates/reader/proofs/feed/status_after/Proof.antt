@@ -26,7 +26,9 @@ returns-2 c = search needs
 
 -- src/feed.rt:53:1
 returns-3 : tie.Need-returns-3
-returns-3 c = ?
+returns-3 c =
+    let answer· = c .before .answer in
+    rw (answer· .given .1)
 
 pub status-after-spec : {M : Type 1} → statement M
 status-after-spec =

@@ -1,3 +1,6 @@
+use Rattle.reader.proofs.StepLaws.{draw-refused, draw-goes}
+use native.Mathlib.Omega.{arith}
+use denote.Ref.{now}
 use borrow.Author.Needs.{needs}
 use Rattle.reader.proofs.step.draw.Statement.{statement}
 use Rattle.reader.proofs.step.draw.Tie as tie
@@ -21,7 +24,12 @@ same-length c = search needs
 
 -- src/step.rt:144:9
 returns : tie.Need-returns
-returns c = ?
+returns c =
+    let args· = c .before .before .before .before .before .before .before .before .before .before .before .args in
+    let act· = c .before .before .before .before .act in
+    let ends· = c .ends in
+    let if1· = c .before .if1 in
+    λ budget firsts st. draw-refused budget (args· .progress) (now (args· .cells)) (now (args· .places)) firsts (now (args· .map)) st (now (args· .out)) (args· .cursor) (args· .action) (args· .sets) (args· .waiting) (act· .result) (act· .last .0) (act· .last .1) (act· .ensures) (ends· .result) (ends· .ensures) (if1· .taken)
 
 -- src/step.rt:147:5
 read-on-requires : tie.Need-read-on-requires
@@ -29,7 +37,9 @@ read-on-requires c κs = search needs
 
 -- src/step.rt:156:20
 add-t29 : tie.Need-add-t29
-add-t29 c = ?
+add-t29 c =
+    let pre· = c .before .before .before .before .before .before .before .before .before .before .before .before .before .before .before .before .before .pre in
+    omega (arith, pre·)
 
 -- src/step.rt:124:1
 same-length-2 : tie.Need-same-length-2
@@ -37,7 +47,13 @@ same-length-2 c = search needs
 
 -- src/step.rt:124:1
 returns-2 : tie.Need-returns-2
-returns-2 c = ?
+returns-2 c =
+    let args· = c .before .before .before .before .before .before .before .before .before .before .before .before .before .before .before .before .before .args in
+    let act· = c .before .before .before .before .before .before .before .before .before .before .act in
+    let read-on· = c .before .before .before .before .read-on in
+    let if1· = c .before .before .before .before .before .before .before .if1 in
+    let pre· = c .before .before .before .before .before .before .before .before .before .before .before .before .before .before .before .before .before .pre in
+    λ budget firsts st. draw-goes budget (args· .progress) (now (args· .cells)) (now (args· .places)) firsts (now (args· .map)) st (now (args· .out)) (args· .cursor) (args· .action) (args· .sets) (args· .waiting) (act· .result) (act· .last .0) (act· .last .1) (act· .ensures) (read-on· .last .0) (read-on· .last .1) (args· .after) (if1· .left) (read-on· .ensures) (pre· .0 .after)
 
 pub draw-spec : {M : Type 1} → statement M
 draw-spec =

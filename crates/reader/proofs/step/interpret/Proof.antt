@@ -1,3 +1,9 @@
+use Rattle.reader.proofs.StepLaws.{byte-inside, byte-refused, byte-calls, byte-acts}
+use Rattle.reader.specs.View.{leftOf}
+use Rattle.coding.proofs.EffectLaws.{call-name}
+use Rattle.coding.specs.View.{codingOf}
+use denote.Ref.{now}
+use mathlib.Core.Path.{sym, _∙_}
 use borrow.Author.Needs.{needs}
 use Rattle.reader.proofs.step.interpret.Statement.{statement}
 use Rattle.reader.proofs.step.interpret.Tie as tie
@@ -7,7 +13,7 @@ use Rattle.reader.proofs.step.call.Reads as call-reads
 use Rattle.reader.proofs.step.draw.Reads as draw-reads
 use Rattle.reader.proofs.step.ends.Reads as ends-reads
 use Rattle.reader.proofs.step.opens_inside.Reads as opens-inside-reads
-use Rattle.reader.proofs.stub.react.Reads as react-reads
+use Rattle.coding.proofs.react.Reads as react-reads
 
 -- src/step.rt:186:8
 opens-inside-requires : tie.Need-opens-inside-requires
@@ -19,7 +25,12 @@ ends-requires c κs = search needs
 
 -- src/step.rt:187:9
 returns : tie.Need-returns
-returns c = ?
+returns c =
+    let args· = c .before .before .before .before .before .before .args in
+    let ends· = c .ends in
+    let opens-inside· = c .before .before .opens-inside in
+    let if1· = c .before .if1 in
+    λ budget. byte-inside budget (args· .progress) (now (args· .cells)) (now (args· .places)) (now (args· .firsts)) (now (args· .map)) (now (args· .store)) (now (args· .out)) (args· .cursor) (args· .byte) (ends· .result) (ends· .ensures) (sym (opens-inside· .ensures) ∙ if1· .taken)
 
 -- src/step.rt:189:9
 react-requires : tie.Need-react-requires
@@ -39,7 +50,13 @@ enum-known-effect-2 c = search needs
 
 -- src/step.rt:195:32
 call-requires : tie.Need-call-requires
-call-requires c κs = ?
+call-requires c κs =
+    let args· = c .before .before .before .before .before .before .before .before .before .before .before .before .before .before .before .before .before .args in
+    let react· = c .before .before .before .before .before .before .before .before .before .react in
+    let effect2· = c .before .before .before .before .effect2 in
+    let pre· = c .before .before .before .before .before .before .before .before .before .before .before .before .before .before .before .before .before .pre in
+    let q = call-name (codingOf (args· .progress .sets) (args· .progress .waiting) (now (args· .firsts))) (now (args· .store)) (args· .byte) (react· .result) (react· .last .0) (react· .last .1) (react· .ensures .0) (effect2· .given .0 .0) (effect2· .given .1) in
+    (pre· .0, q .1)
 
 -- src/step.rt:196:22
 enum-known-effect-3 : tie.Need-enum-known-effect-3
@@ -55,7 +72,14 @@ same-length c = search needs
 
 -- src/step.rt:169:1
 returns-2 : tie.Need-returns-2
-returns-2 c = ?
+returns-2 c =
+    let args· = c .before .before .before .before .before .before .before .before .before .before .before .before .before .before .before .args in
+    let opens-inside· = c .before .before .before .before .before .before .before .before .before .before .before .opens-inside in
+    let if1· = c .before .before .before .before .before .before .before .before .before .before .if1 in
+    let react· = c .before .before .before .before .before .before .before .react in
+    let effect· = c .before .before .effect in
+    let ends2· = c .ends2 in
+    λ budget. byte-refused budget (args· .progress) (now (args· .cells)) (now (args· .places)) (now (args· .firsts)) (now (args· .map)) (now (args· .store)) (now (args· .out)) (args· .cursor) (args· .byte) (sym (opens-inside· .ensures) ∙ if1· .left) (react· .result) (react· .last .0) (react· .last .1) (react· .ensures .0) (effect· .given .0 .0) (effect· .given .1) (react· .ensures .1) (ends2· .result) (ends2· .ensures)
 
 -- src/step.rt:169:1
 same-length-2 : tie.Need-same-length-2
@@ -63,7 +87,14 @@ same-length-2 c = search needs
 
 -- src/step.rt:169:1
 returns-3 : tie.Need-returns-3
-returns-3 c = ?
+returns-3 c =
+    let args· = c .before .before .before .before .before .before .before .before .before .before .before .before .before .before .before .before .before .before .args in
+    let opens-inside· = c .before .before .before .before .before .before .before .before .before .before .before .before .before .before .opens-inside in
+    let if1· = c .before .before .before .before .before .before .before .before .before .before .before .before .before .if1 in
+    let react· = c .before .before .before .before .before .before .before .before .before .before .react in
+    let effect2· = c .before .before .before .before .before .effect2 in
+    let call· = c .call in
+    λ budget. byte-calls budget (args· .progress) (now (args· .cells)) (now (args· .places)) (now (args· .firsts)) (now (args· .map)) (now (args· .store)) (now (args· .out)) (args· .cursor) (args· .byte) (sym (opens-inside· .ensures) ∙ if1· .left) (react· .result) (react· .last .0) (react· .last .1) (react· .ensures .0) (effect2· .given .0 .0) (effect2· .given .1) (react· .ensures .1) (leftOf budget (call· .result) (call· .last .0) (call· .last .1) (react· .last .0) (now (args· .map)) (react· .last .1) (now (args· .out))) (call· .ensures budget (now (args· .map)) (react· .last .1) (now (args· .out)))
 
 -- src/step.rt:169:1
 same-length-3 : tie.Need-same-length-3
@@ -75,7 +106,14 @@ same-length-4 c = search needs
 
 -- src/step.rt:169:1
 returns-4 : tie.Need-returns-4
-returns-4 c = ?
+returns-4 c =
+    let args· = c .before .before .before .before .before .before .before .before .before .before .before .before .before .before .before .before .before .before .before .before .before .args in
+    let opens-inside· = c .before .before .before .before .before .before .before .before .before .before .before .before .before .before .before .before .before .opens-inside in
+    let if1· = c .before .before .before .before .before .before .before .before .before .before .before .before .before .before .before .before .if1 in
+    let react· = c .before .before .before .before .before .before .before .before .before .before .before .before .before .react in
+    let effect3· = c .before .before .before .before .before .before .before .before .effect3 in
+    let draw· = c .before .before .draw in
+    λ budget. byte-acts budget (args· .progress) (now (args· .cells)) (now (args· .places)) (now (args· .firsts)) (now (args· .map)) (now (args· .store)) (now (args· .out)) (args· .cursor) (args· .byte) (sym (opens-inside· .ensures) ∙ if1· .left) (react· .result) (react· .last .0) (react· .last .1) (react· .ensures .0) (effect3· .given .0 .0) (effect3· .given .1) (leftOf budget (draw· .result) (draw· .last .0) (draw· .last .1) (react· .last .0) (draw· .last .2) (react· .last .1) (draw· .last .3)) (draw· .ensures budget (react· .last .0) (react· .last .1))
 
 pub interpret-spec : {M : Type 1} → statement M
 interpret-spec =

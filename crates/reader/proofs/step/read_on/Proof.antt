@@ -1,3 +1,5 @@
+use Rattle.reader.proofs.StepLaws.{on-none, on-some}
+use denote.Ref.{now}
 use borrow.Author.Needs.{needs}
 use Rattle.reader.proofs.step.read_on.Statement.{statement}
 use Rattle.reader.proofs.step.read_on.Tie as tie
@@ -7,7 +9,10 @@ use Rattle.bodies.proofs.set_body.Reads as set-body-reads
 
 -- src/step.rt:79:9
 returns : tie.Need-returns
-returns c = ?
+returns c =
+    let args· = c .before .args in
+    let if1· = c .if1 in
+    on-none (args· .depth) (args· .cursor) _ (if1· .taken)
 
 -- src/step.rt:81:29
 sub-set-body : tie.Need-sub-set-body
@@ -19,7 +24,11 @@ set-body-requires c κs = search needs
 
 -- src/step.rt:74:1
 returns-2 : tie.Need-returns-2
-returns-2 c = ?
+returns-2 c =
+    let args· = c .before .before .before .before .args in
+    let if1· = c .before .before .before .if1 in
+    let set-body· = c .set-body in
+    on-some (args· .depth) (args· .cursor) _ _ _ _ (if1· .left) (set-body· .ensures)
 
 pub read-on-spec : {M : Type 1} → statement M
 read-on-spec = tie.close (tie.spec returns sub-set-body set-body-requires returns-2)

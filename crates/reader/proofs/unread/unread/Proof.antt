@@ -1,3 +1,8 @@
+use Rattle.rules.specs.Calls.{unread}
+use lib.Seq.{drop-length, take-nil, take-all}
+use lib.ListN.{length-drop, drop-of-length-le}
+use native.Mathlib.Omega.{arith}
+use denote.Ref.{now}
 use borrow.Author.Needs.{needs}
 use Rattle.reader.proofs.unread.unread.Statement.{statement}
 use Rattle.reader.proofs.unread.unread.Tie as tie
@@ -18,7 +23,11 @@ part-result-end c = search needs
 
 -- src/unread.rt:10:9
 returns : tie.Need-returns
-returns c = ?
+unfolding unread
+returns c =
+    let args· = c .before .before .args in
+    let if1· = c .before .if1 in
+    rw (drop-length (now (args· .piece)), drop-of-length-le (now (args· .piece)) {i = args· .consumed} (if1· .taken)) (take-nil _)
 
 -- src/unread.rt:12:5
 sub-result-2 : tie.Need-sub-result-2
@@ -34,7 +43,10 @@ part-result-end-2 c = search needs
 
 -- src/unread.rt:6:1
 returns-2 : tie.Need-returns-2
-returns-2 c = ?
+unfolding unread
+returns-2 c =
+    let args· = c .before .before .args in
+    take-all _ _ (omega (arith, length-drop (args· .consumed) (now (args· .piece))))
 
 pub unread-spec : {M : Type 1} → statement M
 unread-spec =

@@ -1,3 +1,4 @@
+use borrow.Author.Tests.{eq-eqb, ne-eqb}
 use borrow.Author.Needs.{needs}
 use Rattle.reader.proofs.verdict.verdict.Statement.{statement}
 use Rattle.reader.proofs.verdict.verdict.Tie as tie
@@ -7,7 +8,9 @@ use Rattle.reader.proofs.verdict.in_range.Reads as in-range-reads
 
 -- src/verdict.rt:45:9
 returns : tie.Need-returns
-returns c = ?
+returns c =
+    let if1· = c .if1 in
+    rw (ne-eqb _ _ (if1· .taken))
 
 -- src/verdict.rt:49:28
 enum-told : tie.Need-enum-told
@@ -27,15 +30,25 @@ enum-known-status c = search needs
 
 -- src/verdict.rt:41:1
 returns-2 : tie.Need-returns-2
-returns-2 c = ?
+returns-2 c =
+    let if1· = c .before .before .before .if1 in
+    let enum-told· = c .before .enum-told in
+    let in-range· = c .in-range in
+    rw (eq-eqb _ _ (if1· .left), enum-told· .given .1) (in-range· .ensures)
 
 -- src/verdict.rt:41:1
 returns-3 : tie.Need-returns-3
-returns-3 c = ?
+returns-3 c =
+    let if1· = c .before .before .if1 in
+    let enum-told2· = c .enum-told2 in
+    rw (eq-eqb _ _ (if1· .left), enum-told2· .given .1)
 
 -- src/verdict.rt:41:1
 returns-4 : tie.Need-returns-4
-returns-4 c = ?
+returns-4 c =
+    let if1· = c .before .before .before .if1 in
+    let status· = c .before .status in
+    rw (eq-eqb _ _ (if1· .left), status· .given .1)
 
 pub verdict-spec : {M : Type 1} → statement M
 verdict-spec =
