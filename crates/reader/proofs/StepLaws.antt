@@ -51,10 +51,10 @@ pub inside-none : (d : ℕ) (x : Waiting) (b : ℕ) → d ≡ 0 → false ≡ op
 unfolding opensInside
 inside-none d x b h = rw h
 
-pub inside-some : (d : ℕ) (x : Waiting) (b : ℕ) → (d ≡ 0 → ⊥) → (afterEscape x && eqb b 64) ≡ opensInside (sourceAt d) x b
+pub inside-some : (d : ℕ) (x : Waiting) (b : ℕ) {t : Bool} → (d ≡ 0 → ⊥) → afterEscape x ≡ t → (t && eqb b 64) ≡ opensInside (sourceAt d) x b
 unfolding opensInside
-inside-some zero x b h = absurd (h refl)
-inside-some (suc i) x b h = refl
+inside-some zero x b h e = absurd (h refl)
+inside-some (suc i) x b h e = rw e
 
 -- A body read on
 pub on-none : (d : ℕ) (x : Cursor) (y : Bodies) → d ≡ 0 → y ≡ readOn d x y

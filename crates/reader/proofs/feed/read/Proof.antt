@@ -73,7 +73,7 @@ returns c =
     let turn· = c .before .before .before .before .before .before .before .before .before .turn in
     let course· = c .before .before .course in
     let finish· = c .finish in
-    loop-ends (args· .session) (now (args· .store)) (now (args· .piece)) (now (args· .out)) (pre·) (start· .result) (start· .ensures) (loop· .progress) (loop· .cells) (loop· .places) (loop· .firsts) (loop· .map) (loop· .store) (loop· .out) (loop· .inv) (turn· .result) (turn· .last .0) (turn· .last .1) (turn· .last .2) (turn· .last .3) (turn· .last .4) (turn· .last .5) (turn· .ensures) _ (course· .given .1) (finish· .result) (finish· .ensures)
+    loop-ends (args· .session) (now (args· .store)) (now (args· .piece)) (now (args· .out)) (pre·) (start· .result) (start· .ensures) (loop· .progress) (loop· .cells) (loop· .places) (loop· .firsts) (loop· .map) (loop· .store) (loop· .out) (loop· .inv) (turn· .result) (turn· .last .1 .1 .0) (turn· .last .1 .1 .1 .0) (turn· .last .1 .1 .1 .1 .0) (turn· .last .1 .1 .1 .1 .1 .0) (turn· .last .1 .1 .1 .1 .1 .1 .0) (turn· .last .1 .1 .1 .1 .1 .1 .1 .1 .0) (turn· .ensures) _ (course· .given .1) (finish· .result) (finish· .ensures)
 
 enum-told : tie.Need-enum-told Inv-loop μ-loop
 enum-told c = search needs
@@ -87,7 +87,7 @@ loop-less c =
     let loop· = c .before .before .before .before .before .before .before .before .before .before .before .before .before .before .loop in
     let turn· = c .before .before .before .before .before .before .before .turn in
     let enum-told· = c .enum-told in
-    let on = loop-on (args· .session) (now (args· .store)) (now (args· .piece)) (now (args· .out)) (pre·) (start· .result) (start· .ensures) (loop· .progress) (loop· .cells) (loop· .places) (loop· .firsts) (loop· .map) (loop· .store) (loop· .out) (loop· .inv) (turn· .result) (turn· .last .0) (turn· .last .1) (turn· .last .2) (turn· .last .3) (turn· .last .4) (turn· .last .5) (turn· .ensures) (enum-told· .given .1) in
+    let on = loop-on (args· .session) (now (args· .store)) (now (args· .piece)) (now (args· .out)) (pre·) (start· .result) (start· .ensures) (loop· .progress) (loop· .cells) (loop· .places) (loop· .firsts) (loop· .map) (loop· .store) (loop· .out) (loop· .inv) (turn· .result) (turn· .last .1 .1 .0) (turn· .last .1 .1 .1 .0) (turn· .last .1 .1 .1 .1 .0) (turn· .last .1 .1 .1 .1 .1 .0) (turn· .last .1 .1 .1 .1 .1 .1 .0) (turn· .last .1 .1 .1 .1 .1 .1 .1 .1 .0) (turn· .ensures) (enum-told· .given .1) in
     omega (arith, on .1, on .2)
 
 -- src/feed.rt:118:5
@@ -99,7 +99,7 @@ loop-again c =
     let loop· = c .before .before .before .before .before .before .before .before .before .before .before .before .before .before .loop in
     let turn· = c .before .before .before .before .before .before .before .turn in
     let enum-told· = c .enum-told in
-    loop-on (args· .session) (now (args· .store)) (now (args· .piece)) (now (args· .out)) (pre·) (start· .result) (start· .ensures) (loop· .progress) (loop· .cells) (loop· .places) (loop· .firsts) (loop· .map) (loop· .store) (loop· .out) (loop· .inv) (turn· .result) (turn· .last .0) (turn· .last .1) (turn· .last .2) (turn· .last .3) (turn· .last .4) (turn· .last .5) (turn· .ensures) (enum-told· .given .1) .0
+    loop-on (args· .session) (now (args· .store)) (now (args· .piece)) (now (args· .out)) (pre·) (start· .result) (start· .ensures) (loop· .progress) (loop· .cells) (loop· .places) (loop· .firsts) (loop· .map) (loop· .store) (loop· .out) (loop· .inv) (turn· .result) (turn· .last .1 .1 .0) (turn· .last .1 .1 .1 .0) (turn· .last .1 .1 .1 .1 .0) (turn· .last .1 .1 .1 .1 .1 .0) (turn· .last .1 .1 .1 .1 .1 .1 .0) (turn· .last .1 .1 .1 .1 .1 .1 .1 .1 .0) (turn· .ensures) (enum-told· .given .1) .0
 
 pub read-spec : {M : Type 1} → statement M
 read-spec =

@@ -51,7 +51,7 @@ returns-2 c =
     let first-of· = c .before .before .before .before .before .before .before .first-of in
     let if1· = c .before .before .before .before .before .before .before .before .before .before .before .if1 in
     let pre· = c .before .before .before .before .before .before .before .before .before .before .before .before .pre in
-    λ budget map st out. call-goes budget (args· .progress) (now (args· .cells)) (now (args· .places)) (now (args· .firsts)) map st out (args· .cursor) (args· .name) (args· .sets) (args· .waiting) (read-on· .last .0) (read-on· .last .1) (set-body· .last .0) (set-body· .last .1) (first-of· .result) (args· .after) (if1· .left) (read-on· .ensures) (first-of· .ensures) (set-body· .ensures) (pre· .0 .after)
+    λ budget map st out. call-goes budget (args· .progress) (now (args· .cells)) (now (args· .places)) (now (args· .firsts)) map st out (args· .cursor) (args· .name) (args· .sets) (args· .waiting) (read-on· .last .0) (read-on· .last .1 .0) (set-body· .last .0) (set-body· .last .1 .0) (first-of· .result) (args· .after) (if1· .left) (read-on· .ensures) (first-of· .ensures) (set-body· .ensures) (pre· .0 .after)
 
 pub call-spec : {M : Type 1} → statement M
 call-spec =

@@ -29,7 +29,7 @@ returns c =
     let act· = c .before .before .before .before .act in
     let ends· = c .ends in
     let if1· = c .before .if1 in
-    λ budget firsts st. draw-refused budget (args· .progress) (now (args· .cells)) (now (args· .places)) firsts (now (args· .map)) st (now (args· .out)) (args· .cursor) (args· .action) (args· .sets) (args· .waiting) (act· .result) (act· .last .0) (act· .last .1) (act· .ensures) (ends· .result) (ends· .ensures) (if1· .taken)
+    λ budget firsts st. draw-refused budget (args· .progress) (now (args· .cells)) (now (args· .places)) firsts (now (args· .map)) st (now (args· .out)) (args· .cursor) (args· .action) (args· .sets) (args· .waiting) (act· .result) (act· .last .1 .1 .1 .1 .0) (act· .last .1 .1 .1 .1 .1 .0) (act· .ensures) (ends· .result) (ends· .ensures) (if1· .taken)
 
 -- src/step.rt:147:5
 read-on-requires : tie.Need-read-on-requires
@@ -53,7 +53,7 @@ returns-2 c =
     let read-on· = c .before .before .before .before .read-on in
     let if1· = c .before .before .before .before .before .before .before .if1 in
     let pre· = c .before .before .before .before .before .before .before .before .before .before .before .before .before .before .before .before .before .pre in
-    λ budget firsts st. draw-goes budget (args· .progress) (now (args· .cells)) (now (args· .places)) firsts (now (args· .map)) st (now (args· .out)) (args· .cursor) (args· .action) (args· .sets) (args· .waiting) (act· .result) (act· .last .0) (act· .last .1) (act· .ensures) (read-on· .last .0) (read-on· .last .1) (args· .after) (if1· .left) (read-on· .ensures) (pre· .0 .after)
+    λ budget firsts st. draw-goes budget (args· .progress) (now (args· .cells)) (now (args· .places)) firsts (now (args· .map)) st (now (args· .out)) (args· .cursor) (args· .action) (args· .sets) (args· .waiting) (act· .result) (act· .last .1 .1 .1 .1 .0) (act· .last .1 .1 .1 .1 .1 .0) (act· .ensures) (read-on· .last .0) (read-on· .last .1 .0) (args· .after) (if1· .left) (read-on· .ensures) (pre· .0 .after)
 
 pub draw-spec : {M : Type 1} → statement M
 draw-spec =

@@ -55,7 +55,7 @@ call-requires c κs =
     let react· = c .before .before .before .before .before .before .before .before .before .react in
     let effect2· = c .before .before .before .before .effect2 in
     let pre· = c .before .before .before .before .before .before .before .before .before .before .before .before .before .before .before .before .before .pre in
-    let q = call-name (codingOf (args· .progress .sets) (args· .progress .waiting) (now (args· .firsts))) (now (args· .store)) (args· .byte) (react· .result) (react· .last .0) (react· .last .1) (react· .ensures .0) (effect2· .given .0 .0) (effect2· .given .1) in
+    let q = call-name (codingOf (args· .progress .sets) (args· .progress .waiting) (now (args· .firsts))) (now (args· .store)) (args· .byte) (react· .result) (react· .last .1 .1 .0) (react· .last .1 .1 .1 .0) (react· .ensures .0) (effect2· .given .0 .0) (effect2· .given .1) in
     (pre· .0, q .1)
 
 -- src/step.rt:196:22
@@ -79,7 +79,7 @@ returns-2 c =
     let react· = c .before .before .before .before .before .before .before .react in
     let effect· = c .before .before .effect in
     let ends2· = c .ends2 in
-    λ budget. byte-refused budget (args· .progress) (now (args· .cells)) (now (args· .places)) (now (args· .firsts)) (now (args· .map)) (now (args· .store)) (now (args· .out)) (args· .cursor) (args· .byte) (sym (opens-inside· .ensures) ∙ if1· .left) (react· .result) (react· .last .0) (react· .last .1) (react· .ensures .0) (effect· .given .0 .0) (effect· .given .1) (react· .ensures .1) (ends2· .result) (ends2· .ensures)
+    λ budget. byte-refused budget (args· .progress) (now (args· .cells)) (now (args· .places)) (now (args· .firsts)) (now (args· .map)) (now (args· .store)) (now (args· .out)) (args· .cursor) (args· .byte) (sym (opens-inside· .ensures) ∙ if1· .left) (react· .result) (react· .last .1 .1 .0) (react· .last .1 .1 .1 .0) (react· .ensures .0) (effect· .given .0 .0) (effect· .given .1) (react· .ensures .1) (ends2· .result) (ends2· .ensures)
 
 -- src/step.rt:169:1
 same-length-2 : tie.Need-same-length-2
@@ -94,7 +94,7 @@ returns-3 c =
     let react· = c .before .before .before .before .before .before .before .before .before .before .react in
     let effect2· = c .before .before .before .before .before .effect2 in
     let call· = c .call in
-    λ budget. byte-calls budget (args· .progress) (now (args· .cells)) (now (args· .places)) (now (args· .firsts)) (now (args· .map)) (now (args· .store)) (now (args· .out)) (args· .cursor) (args· .byte) (sym (opens-inside· .ensures) ∙ if1· .left) (react· .result) (react· .last .0) (react· .last .1) (react· .ensures .0) (effect2· .given .0 .0) (effect2· .given .1) (react· .ensures .1) (leftOf budget (call· .result) (call· .last .0) (call· .last .1) (react· .last .0) (now (args· .map)) (react· .last .1) (now (args· .out))) (call· .ensures budget (now (args· .map)) (react· .last .1) (now (args· .out)))
+    λ budget. byte-calls budget (args· .progress) (now (args· .cells)) (now (args· .places)) (now (args· .firsts)) (now (args· .map)) (now (args· .store)) (now (args· .out)) (args· .cursor) (args· .byte) (sym (opens-inside· .ensures) ∙ if1· .left) (react· .result) (react· .last .1 .1 .0) (react· .last .1 .1 .1 .0) (react· .ensures .0) (effect2· .given .0 .0) (effect2· .given .1) (react· .ensures .1) (leftOf budget (call· .result) (call· .last .1 .1 .1 .1 .1 .1 .0) (call· .last .1 .1 .1 .1 .1 .1 .1 .0) (react· .last .1 .1 .0) (now (args· .map)) (react· .last .1 .1 .1 .0) (now (args· .out))) (call· .ensures budget (now (args· .map)) (react· .last .1 .1 .1 .0) (now (args· .out)))
 
 -- src/step.rt:169:1
 same-length-3 : tie.Need-same-length-3
@@ -113,7 +113,7 @@ returns-4 c =
     let react· = c .before .before .before .before .before .before .before .before .before .before .before .before .before .react in
     let effect3· = c .before .before .before .before .before .before .before .before .effect3 in
     let draw· = c .before .before .draw in
-    λ budget. byte-acts budget (args· .progress) (now (args· .cells)) (now (args· .places)) (now (args· .firsts)) (now (args· .map)) (now (args· .store)) (now (args· .out)) (args· .cursor) (args· .byte) (sym (opens-inside· .ensures) ∙ if1· .left) (react· .result) (react· .last .0) (react· .last .1) (react· .ensures .0) (effect3· .given .0 .0) (effect3· .given .1) (leftOf budget (draw· .result) (draw· .last .0) (draw· .last .1) (react· .last .0) (draw· .last .2) (react· .last .1) (draw· .last .3)) (draw· .ensures budget (react· .last .0) (react· .last .1))
+    λ budget. byte-acts budget (args· .progress) (now (args· .cells)) (now (args· .places)) (now (args· .firsts)) (now (args· .map)) (now (args· .store)) (now (args· .out)) (args· .cursor) (args· .byte) (sym (opens-inside· .ensures) ∙ if1· .left) (react· .result) (react· .last .1 .1 .0) (react· .last .1 .1 .1 .0) (react· .ensures .0) (effect3· .given .0 .0) (effect3· .given .1) (leftOf budget (draw· .result) (draw· .last .1 .1 .1 .1 .1 .1 .0) (draw· .last .1 .1 .1 .1 .1 .1 .1 .0) (react· .last .1 .1 .0) (draw· .last .1 .1 .1 .1 .1 .1 .1 .1 .0) (react· .last .1 .1 .1 .0) (draw· .last .1 .1 .1 .1 .1 .1 .1 .1 .1 .0)) (draw· .ensures budget (react· .last .1 .1 .0) (react· .last .1 .1 .1 .0))
 
 pub interpret-spec : {M : Type 1} → statement M
 interpret-spec =

@@ -127,7 +127,8 @@ place-after-requires c κs =
     let args· = c .before .before .before .before .before .before .before .before .before .before .before .before .before .before .before .before .before .before .before .before .before .args in
     let nothing-left· = c .before .before .before .before .before .before .before .before .before .before .before .before .nothing-left in
     let if1· = c .before .before .before .before .before .before .before .before .before .before .before .if1 in
-    λ h. omega (arith, some-of-piece (depth-left· .result) (args· .progress .at) (now (args· .piece)) (sym (nothing-left· .ensures) ∙ if1· .left) h)
+    let good· = c .before .before .before .before .before .before .before .before .before .before .before .before .before .before .before .before .before .before .before .before .before .good in
+    λ h. omega (arith, some-of-piece (depth-left· .result) (args· .progress .at) (now (args· .piece)) (sym (nothing-left· .ensures) ∙ if1· .left) h, good· .1 .1 .1 .1 .1 .1 .1 .0 .0)
 
 -- src/turn.rt:95:13
 interpret-requires : tie.Need-interpret-requires
@@ -184,7 +185,7 @@ returns-5 c =
     let byte· = c .before .before .before .before .before .before .before .before .before .before .before .before .before .byte in
     let interpret· = c .before .before .before .before .interpret in
     turn-byte (args· .budget) (args· .progress) (now (args· .cells)) (now (args· .places)) (now (args· .firsts)) (now (args· .map)) (now (args· .store)) (now (args· .piece)) (now (args· .out)) (depth-left· .result) (depth-left· .ensures .0) (at-depth· .result) (at-depth· .ensures) (sym (nothing-left· .ensures) ∙ if1· .left) (if2· .left) (if3· .left) (next-byte· .result) (next-byte· .ensures) (byte· .given .1)
-    (leftOf (args· .budget) (interpret· .result) (interpret· .last .0) (interpret· .last .1) (interpret· .last .2) (interpret· .last .3) (interpret· .last .4) (interpret· .last .5)) (interpret· .ensures (args· .budget))
+    (leftOf (args· .budget) (interpret· .result) (interpret· .last .1 .1 .1 .1 .0) (interpret· .last .1 .1 .1 .1 .1 .0) (interpret· .last .1 .1 .1 .1 .1 .1 .0) (interpret· .last .1 .1 .1 .1 .1 .1 .1 .0) (interpret· .last .1 .1 .1 .1 .1 .1 .1 .1 .0) (interpret· .last .1 .1 .1 .1 .1 .1 .1 .1 .1 .0)) (interpret· .ensures (args· .budget))
 
 pub turn-spec : {M : Type 1} → statement M
 turn-spec =

@@ -1,3 +1,5 @@
+use lib.ListN.{length, drop}
+use Prim.Native.Nat.{_-_}
 use Rattle.rules.specs.Calls.{unread}
 use lib.Seq.{drop-length, take-nil, take-all}
 use lib.ListN.{length-drop, drop-of-length-le}
@@ -27,7 +29,7 @@ unfolding unread
 returns c =
     let args· = c .before .before .args in
     let if1· = c .before .if1 in
-    rw (drop-length (now (args· .piece)), drop-of-length-le (now (args· .piece)) {i = args· .consumed} (if1· .taken)) (take-nil _)
+    rw (drop-length (now (args· .piece)), drop-of-length-le (now (args· .piece)) {i = args· .consumed} (if1· .taken)) (take-nil (length (now (args· .piece)) - length (now (args· .piece))))
 
 -- src/unread.rt:12:5
 sub-result-2 : tie.Need-sub-result-2
@@ -46,7 +48,7 @@ returns-2 : tie.Need-returns-2
 unfolding unread
 returns-2 c =
     let args· = c .before .before .args in
-    take-all _ _ (omega (arith, length-drop (args· .consumed) (now (args· .piece))))
+    take-all (length (now (args· .piece)) - args· .consumed) (drop (args· .consumed) (now (args· .piece))) (omega (arith, length-drop (args· .consumed) (now (args· .piece))))
 
 pub unread-spec : {M : Type 1} → statement M
 unread-spec =

@@ -1,3 +1,6 @@
+use Rattle.reader.proofs.VerdictLaws.{verdict-by}
+use Rattle.rules.specs.Ranges.{fits}
+use mathlib.Core.Path.{_∙_}
 use borrow.Author.Tests.{eq-eqb, ne-eqb}
 use borrow.Author.Needs.{needs}
 use Rattle.reader.proofs.verdict.verdict.Statement.{statement}
@@ -31,24 +34,27 @@ enum-known-status c = search needs
 -- src/verdict.rt:41:1
 returns-2 : tie.Need-returns-2
 returns-2 c =
+    let in-range· = c .in-range in
+    let args· = c .before .before .before .before .args in
     let if1· = c .before .before .before .if1 in
     let enum-told· = c .before .enum-told in
-    let in-range· = c .in-range in
-    rw (eq-eqb _ _ (if1· .left), enum-told· .given .1) (in-range· .ensures)
+    in-range· .ensures ∙ verdict-by (args· .size) (fits (args· .session)) (if1· .left) (enum-told· .given .1)
 
 -- src/verdict.rt:41:1
 returns-3 : tie.Need-returns-3
 returns-3 c =
+    let args· = c .before .before .before .args in
     let if1· = c .before .before .if1 in
     let enum-told2· = c .enum-told2 in
-    rw (eq-eqb _ _ (if1· .left), enum-told2· .given .1)
+    verdict-by (args· .size) (fits (args· .session)) (if1· .left) (enum-told2· .given .1)
 
 -- src/verdict.rt:41:1
 returns-4 : tie.Need-returns-4
 returns-4 c =
+    let args· = c .before .before .before .before .args in
     let if1· = c .before .before .before .if1 in
     let status· = c .before .status in
-    rw (eq-eqb _ _ (if1· .left), status· .given .1)
+    verdict-by (args· .size) (fits (args· .session)) (if1· .left) (status· .given .1)
 
 pub verdict-spec : {M : Type 1} → statement M
 verdict-spec =
