@@ -1,7 +1,7 @@
 // The stack of running macro bodies, outermost first, lent as two arrays beside the depth.
-use macros::bodies::has_left;
-use macros::bodies::read_body;
 use macros::cells::MOST_BYTES;
+use macros::cursors::has_left;
+use macros::cursors::read_body;
 use rules::Cursor;
 use rules::Read;
 ghost use mathlib.Core.Path.{_≡_};

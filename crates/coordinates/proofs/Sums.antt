@@ -1,12 +1,13 @@
 -- The code's test on patterns is the rule's test on signed numbers, by the signs of the summands; and a sum in range is exact
 use mathlib.Core.Path.{_≡_, refl, sym, ap, _∙_}
-use mathlib.Core.Bool.{Bool, true, false, not, cond, _&&_, _||_}
+use mathlib.Core.Bool.{Bool, true, false, not, cond, _&&_}
 use Prim.Native.Nat.{ℕ, suc, _+_, _-_, _^_, _≤_, _<_}
 use native.Mathlib.Omega.{arith}
 use borrow.Author.Tests.{lt-ltb, le-ltb, le-leb, lt-leb, ltb-true, ltb-false, leb-true, leb-false}
 use lib.Dec.{ltb, leb}
 use lib.IntN.{pos, negsuc, subℕ, _+ℤ_, +ℤ-comm}
 use Rattle.rules.specs.Operands.{signed, inRange, wrappedSum, leavesRange}
+use Rattle.rules.proofs.Bools.{by-truth}
 
 -- The numbers of the low patterns, and of the high ones
 low : (a : ℕ) → a < 2 ^ 31 → signed a ≡ pos a
@@ -16,10 +17,6 @@ low a h = rw (lt-ltb a (2 ^ 31) h)
 high : (a : ℕ) → 2 ^ 31 ≤ a → a < 2 ^ 32 → signed a ≡ negsuc (2 ^ 32 - suc a)
 unfolding signed
 high a h k = rw (le-ltb a (2 ^ 31) h, lt-ltb a (2 ^ 32) k)
-
-by-truth : (x y : Bool) → (x ≡ true → y ≡ true) → (x ≡ false → y ≡ false) → x ≡ y
-by-truth true y p q = sym (p refl)
-by-truth false y p q = sym (q refl)
 
 -- A difference of two numbers of 31 bits is in range
 apart : (m n : ℕ) → m < 2 ^ 31 → n ≤ 2 ^ 31 → inRange (subℕ m n) ≡ true
@@ -89,10 +86,3 @@ exact-at a b s e fa fb stays false true d f =
 -- A sum that stays in range is the sum of the numbers
 pub exact : (a b : ℕ) → a < 2 ^ 32 → b < 2 ^ 32 → leavesRange a b ≡ false → signed (wrappedSum a b) ≡ signed a +ℤ signed b
 exact a b fa fb stays = exact-at a b (wrappedSum a b) refl fa fb stays (ltb a (2 ^ 31)) (ltb b (2 ^ 31)) refl refl
-
--- Either of two tests, as the code takes the second only where the first fails
-pub either-first : {a p : Bool} (q : Bool) → a ≡ p → a ≡ true → a ≡ p || q
-either-first q e h = rw (sym e ∙ h) h
-
-pub either-second : {a b p q : Bool} → a ≡ p → b ≡ q → a ≡ false → b ≡ p || q
-either-second e f h = rw (sym e ∙ h) f

@@ -1,7 +1,7 @@
 -- Outcomes carried out
 use mathlib.Core.Path.{_≡_, refl, sym, ap, _∙_}
-use mathlib.Core.Bool.{Bool, true, false}
-use mathlib.Core.List.{List, [], _∷_, _++_, append-nil}
+use mathlib.Core.Bool.{true, false}
+use mathlib.Core.List.{List, [], _∷_, append-nil}
 use Prim.Native.Nat.{ℕ, _+_, _*_, _≤_}
 use native.Mathlib.Nat.{add-zero, add-assoc}
 use native.Mathlib.Omega.{arith}
@@ -24,6 +24,11 @@ carry-none e d at out = rw (add-zero, overwrite-none)
 pub carry-one : (r : Record) (e d : Drawing) (at : ℕ) (out : List ℕ) → carry (Draw e (r ∷ [])) d at out ≡ record { refused = false; drawing = e; at = at + 40; output = overwrite at (bytesOf r) out }
 unfolding carry bytesOfAll
 carry-one r e d at out = rw (append-nil, record-length)
+
+-- Where a rule draws what was carried out, that is what the rule carries out
+pub drawn-by : {x : Carried} {e : Drawing} {rs : List Record} {o : Outcome} (d : Drawing) (at : ℕ) (out : List ℕ) → x ≡ carry (Draw e rs) e at out → o ≡ Draw e rs → x ≡ carry o d at out
+unfolding carry
+drawn-by d at out p q = p ∙ ap (λ (y : Outcome). carry y d at out) (sym q)
 
 -- Outcomes that are no refusals
 abbrev pub Draws : Outcome → Type 0
@@ -66,10 +71,10 @@ module _ (o : Outcome) (k : Drawing → Outcome) (d : Drawing) (at : ℕ) (out :
       by : (x : Outcome) → a ≡ carry x d at out → b ≡ carry (andThen x k) d at out
       by (Refuse r) g = let z : true ≡ false = sym (ap (λ (y : Carried). y .refused) g) ∙ t in cc
       by (Draw e rs) g =
-          let ed = ap (λ (y : Carried). y .drawing) g in
+          let s = ap (λ (y : Carried). y .drawing) g in
           f
           ∙ ap (λ (y : Carried). carry (k (y .drawing)) (y .drawing) (y .at) (y .output)) g
-          ∙ sym (carry-then e rs k d at out h (rw ed at p))
+          ∙ sym (carry-then e rs k d at out h (rw s at p))
 
 -- The place after at most n records
 pub carry-most : (n : ℕ) (o : Outcome) (d : Drawing) (at : ℕ) (out : List ℕ) → AtMost n o → carry o d at out .at ≤ at + 40 * n

@@ -18,7 +18,7 @@ ghost use mathlib.Core.List.{[]};
 ghost use Prim.Native.Nat.{_+_, _≤_};
 ghost use lib.ListN.{length};
 ghost use Rattle.rules.specs.Operands.{greenBits, redBits, blueBits, bitsOf, fromTop, address, begun};
-ghost use Rattle.rules.specs.Drawing.{Draw, withColour, withForeground, withBackground, shadeMap, shadeTo};
+ghost use Rattle.rules.specs.Drawing.{Draw, withColour, withForeground, withBackground, mapAt, shadeMap, shadeTo};
 ghost use Rattle.figures.specs.Carried.{carryOut, drawingOf, carriedOf, ChangesBy};
 
 pub fn set_foreground(pen: Pen, command: Command, look: Look, at: usize) -> Drawn
@@ -70,6 +70,16 @@ fn shade_colour(hue: Hue, pen: Pen, command: Command, look: Look, at: usize) -> 
     no_record(pen, command, look, at)
 }
 
+fn put_hue(map: &mut [u8; 48], address: u8, hue: Hue)
+    requires { ⌜ address ≤ 15 ⌝ }
+    ensures { λ _. ⌜ now (map .exit) ≡ mapAt address (hue .green) (hue .red) (hue .blue) (now (map .entry)) ⌝ }
+{
+    let i = 3 * (address as usize);
+    map[i] = hue.green;
+    map[i + 1] = hue.red;
+    map[i + 2] = hue.blue;
+}
+
 // Modes 1 and 2: the map at the foreground.
 fn shade_map(
     hue: Hue,
@@ -84,10 +94,7 @@ fn shade_map(
     ensures { λ r. ⌜ carriedOf r (now (map .exit)) (now (out .exit)) ≡ carryOut (shadeMap (hue .green) (hue .red) (hue .blue)) (drawingOf pen command look (now (map .entry))) at (now (out .entry)) ⌝ }
 {
     let colour = look.colour;
-    let i = 3 * (colour.foreground as usize);
-    map[i] = hue.green;
-    map[i + 1] = hue.red;
-    map[i + 2] = hue.blue;
+    put_hue(map, colour.foreground, hue);
     let p0 = Point {
         x: hue.green as u32,
         y: hue.red as u32,
@@ -98,6 +105,27 @@ fn shade_map(
     };
     let record = figure(look, 8, 0, p0, p1, ORIGIN);
     one_record(record, pen, command, look, out, at)
+}
+
+// The mode is the look's own.
+fn shade_to(
+    mode: Mode,
+    hue: Hue,
+    pen: Pen,
+    command: Command,
+    look: Look,
+    map: &mut [u8; 48],
+    out: &mut [u8],
+    at: usize,
+) -> Drawn
+    requires { ⌜ (look .colour .foreground ≤ 15) × (at + 40 ≤ length (now out)) ⌝ }
+    ensures { λ r. ⌜ carriedOf r (now (map .exit)) (now (out .exit)) ≡ carryOut (shadeTo mode (hue .green) (hue .red) (hue .blue)) (drawingOf pen command look (now (map .entry))) at (now (out .entry)) ⌝ }
+{
+    match mode {
+        Mode::Direct => shade_colour(hue, pen, command, look, at),
+        Mode::Mapped => shade_map(hue, pen, command, look, map, out, at),
+        Mode::TwoColour => shade_map(hue, pen, command, look, map, out, at),
+    }
 }
 
 pub fn set_shade(
@@ -115,9 +143,5 @@ pub fn set_shade(
     let hue = hue_of(operand);
     let colour = look.colour;
     let mode = colour.mode;
-    match mode {
-        Mode::Direct => shade_colour(hue, pen, command, look, at),
-        Mode::Mapped => shade_map(hue, pen, command, look, map, out, at),
-        Mode::TwoColour => shade_map(hue, pen, command, look, map, out, at),
-    }
+    shade_to(mode, hue, pen, command, look, map, out, at)
 }

@@ -5,23 +5,21 @@ use mathlib.Core.Bool.{true}
 use mathlib.Core.List.{List, _∷_}
 use Prim.Native.Nat.{ℕ, zero, suc, _+_, _*_, _-_, _/_, _%_, _<_, _≤_}
 use native.Mathlib.Omega.{arith}
-use borrow.Author.Tests.{le-leb, leb-true}
-use lib.Dec.{leb}
 use lib.ListN.{length, getD, replicate, length-set, length-append, getD-replicate, List·getD-append}
 use lib.Seq.{getD-set-same, getD-set-other}
 use Rattle.rules.specs.Store.{nextOf, setNext, countOf, setCount, goodCount, setBodyByte, linked, freshStore}
+use Rattle.rules.proofs.Lists.{getD-past}
+use Rattle.rules.proofs.Spans.{inside, most}
 use Rattle.macros.specs.Lent.{Sized}
-use Rattle.macros.proofs.ListLaws.{getD-past}
-use Rattle.macros.proofs.ChoiceLaws.{and-right}
 
 -- A good count is from 1 to 30
 pub good-most : (n : ℕ) → goodCount n ≡ true → n ≤ 30
 unfolding goodCount
-good-most n e = leb-true n 30 (and-right (leb 1 n) (leb n 30) e)
+good-most n = most 1 n 30
 
 pub good-between : (n : ℕ) → 1 ≤ n → n ≤ 30 → goodCount n ≡ true
 unfolding goodCount
-good-between n lo hi = simp (le-leb 1 n lo, le-leb n 30 hi)
+good-between n = inside 1 n 30
 
 -- A store keeps its length
 pub length-setNext : (st : List ℕ) (c v : ℕ) → length (setNext st c v) ≡ length st

@@ -11,6 +11,7 @@ use Rattle.rules.specs.declared.Definition.{Definition}
 use Rattle.rules.specs.declared.Refusal.{Refusal}
 use Rattle.rules.specs.declared.Refusal.the-variants.{StoreFull, OutOfRange}
 use Rattle.rules.specs.Store.{nextOf, setNext, countOf, setCount, goodCount, setBodyByte, Filling, Storing, NotStored, Stored, onStore, takeCell, linkCell, storeInNew, storeInLast, storeByte, storeNext, storeEscapeAnd}
+use Rattle.rules.proofs.Bools.{by-test, pick-by}
 use Rattle.macros.specs.Lent.{Sized}
 use Rattle.macros.specs.Storing.{fillingOf, storingOf, KeptIfRefused}
 use Rattle.macros.specs.Room.{freeCell, roomForTwo}
@@ -18,7 +19,6 @@ use Rattle.macros.specs.declared.definitions.StoreAnswer.{StoreAnswer}
 use Rattle.macros.specs.declared.definitions.StoreAnswer.the-variants.{Done, Refused}
 use Rattle.macros.specs.declared.escapes.Room.{Room}
 use Rattle.macros.specs.declared.escapes.Room.the-variants.{Enough, Refused as Short}
-use Rattle.macros.proofs.ChoiceLaws.{by-test, pick-cases}
 use Rattle.macros.proofs.CellLaws.{good-most, good-between, length-setNext, length-setBodyByte, count-setCount, count-setNext, count-setBodyByte, next-setCount, next-setBodyByte}
 use Rattle.macros.proofs.StoringLaws.{held, front, byte-first, byte-bad, byte-in, byte-full, new-none}
 
@@ -101,7 +101,7 @@ module _ (f : Filling) (b : ℕ) (sized : Sized (f .store)) (low : f .definition
   two-new e =
       let g = inNew (front f) f 27 in
       let one : held g ≡ 1 = ap (countOf (g .store)) new-last ∙ new-count in
-      pick-cases (Ending f b) (eqb (front f) 0) _ _
+      pick-by (Ending f b) (eqb (front f) 0)
       (λ z. refused-first f b StoreFull (e ∙ new-none f 27 (front f) (eqb-true (front f) 0 z)))
       (λ z.
       let nz = eqb-false (front f) 0 z in
@@ -129,7 +129,7 @@ module _ (f : Filling) (b : ℕ) (sized : Sized (f .store)) (low : f .definition
     two-split h =
         let g = inLast (held f) f 27 in
         let full = in-decides ∙ after-full g b nz (omega (arith, in-count)) in
-        pick-cases (Ending f b) (eqb (front f) 0) _ _
+        pick-by (Ending f b) (eqb (front f) 0)
         (λ z. full ∙ new-none g b (front g) (in-front ∙ eqb-true (front f) 0 z))
         (λ z. rw (full ∙ in-new g b (front g) (λ q. eqb-false (front f) 0 z (sym in-front ∙ q))) tt)
 
@@ -144,12 +144,12 @@ module _ (f : Filling) (b : ℕ) (sized : Sized (f .store)) (low : f .definition
   two : Ending f b (roomForTwo (f .store) (f .definition .last))
   unfolding roomForTwo
   two =
-      pick-cases (Ending f b) (eqb (f .definition .last) 0) _ _ (λ e. two-new (byte-first f 27 (eqb-true (f .definition .last) 0 e)))
+      pick-by (Ending f b) (eqb (f .definition .last) 0) (λ e. two-new (byte-first f 27 (eqb-true (f .definition .last) 0 e)))
       (λ e.
       let nz = eqb-false (f .definition .last) 0 e in
-      pick-cases (Ending f b) (goodCount (held f)) _ _
+      pick-by (Ending f b) (goodCount (held f))
       (λ good.
-      pick-cases (Ending f b) (ltb (held f) 29) _ _
+      pick-by (Ending f b) (ltb (held f) 29)
       (λ h. two-in nz good (omega (arith, ltb-true (held f) 29 h)) (ltb-true (held f) 29 h))
       (λ h. two-over nz good (ltb-false (held f) 29 h)))
       (λ bad. refused-first f b OutOfRange (byte-bad f 27 nz bad)))

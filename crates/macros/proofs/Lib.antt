@@ -1,5 +1,3 @@
-pub mod ListLaws
-pub mod ChoiceLaws
 pub mod CellLaws
 pub mod ChainLaws
 pub mod StoringLaws

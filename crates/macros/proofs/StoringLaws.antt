@@ -1,19 +1,19 @@
 -- Laws of storing a byte: the rule by its cases, and from what the calls hand back.
 -- Assumes nothing.
-use mathlib.Core.Path.{_≡_, refl}
-use mathlib.Core.Bool.{Bool, true, false}
+use mathlib.Core.Path.{_≡_}
+use mathlib.Core.Bool.{true, false}
 use mathlib.Core.List.{List}
 use Prim.Native.Nat.{ℕ, _+_, _<_, _≤_}
 use native.Mathlib.Numerals.{add-one}
 use borrow.Author.Tests.{eq-eqb, ne-eqb, lt-ltb, le-ltb}
-use lib.Dec.{eqb, ltb}
+use lib.Dec.{eqb}
 use Rattle.rules.specs.declared.Definition.{Definition}
 use Rattle.rules.specs.declared.Refusal.the-variants.{StoreFull, OutOfRange}
-use Rattle.rules.specs.Store.{nextOf, setNext, countOf, setCount, goodCount, setBodyByte, setFirst, Filling, Storing, NotStored, Stored, onStore, takeCell, linkCell, storeInNew, storeInLast, storeByte}
+use Rattle.rules.specs.Store.{nextOf, setNext, countOf, setCount, goodCount, setBodyByte, setFirst, Filling, NotStored, Stored, takeCell, linkCell, storeInNew, storeInLast, storeByte}
+use Rattle.rules.proofs.CodingRanges.{StoringKeeps, store-keeps}
 use Rattle.macros.specs.Storing.{fillingOf, storingOf}
 use Rattle.macros.specs.declared.definitions.StoreAnswer.{StoreAnswer}
 use Rattle.macros.specs.declared.definitions.StoreAnswer.the-variants.{Done}
-use Rattle.macros.proofs.ChoiceLaws.{pick-cases}
 
 -- The count of the last cell, and the front of the free chain
 abbrev pub held : Filling → ℕ
@@ -76,29 +76,7 @@ module _ (d : Definition) (firsts st : List ℕ) where
   in-stored n b st₁ st₂ e₁ e₂ = simp (e₂, e₁, add-one)
 
 -- The name of a definition stays
-SameName : Filling → Storing → Type 0
-SameName f (NotStored r) = Unit
-SameName f (Stored g) = g .definition .name ≡ f .definition .name
-
-module _ (f : Filling) (b : ℕ) where
-  name-linked : (n : ℕ) (t : Bool) → linkCell t n (onStore (takeCell n) f) .definition .name ≡ f .definition .name
-  unfolding linkCell
-  name-linked n true = refl
-  name-linked n false = refl
-
-  name-new : (n : ℕ) → SameName f (storeInNew n f b)
-  unfolding storeInNew SameName
-  name-new n = pick-cases (SameName f) (eqb n 0) _ _ (λ e. tt) (λ e. name-linked n (eqb (f .definition .last) 0))
-
-  name-stays : SameName f (storeByte f b)
-  unfolding storeByte storeInLast SameName
-  name-stays =
-      pick-cases (SameName f) (eqb (f .definition .last) 0) _ _ (λ e. name-new (front f))
-      (λ e.
-      pick-cases (SameName f) (goodCount (held f)) _ _
-      (λ g. pick-cases (SameName f) (ltb (held f) 30) _ _ (λ h. refl) (λ h. name-new (front f)))
-      (λ g. tt))
-
-  pub same-name : (a : StoreAnswer) (firsts st : List ℕ) (d : Definition) → storingOf a firsts st ≡ storeByte f b → a ≡ Done d → d .name ≡ f .definition .name
-  unfolding SameName
-  same-name a firsts st d e done = rw (← e, done) at name-stays
+pub same-name : (f : Filling) (b : ℕ) (a : StoreAnswer) (firsts st : List ℕ) (d : Definition) → storingOf a firsts st ≡ storeByte f b → a ≡ Done d → d .name ≡ f .definition .name
+same-name f b a firsts st d e done =
+    let kept : StoringKeeps f (storingOf (Done d) firsts st) = rw (← e, done) at (store-keeps f b) in
+    kept .1

@@ -1,15 +1,13 @@
 -- Bytes written at a place of the output
-use mathlib.Core.Path.{_≡_, refl, ap, _∙_}
+use mathlib.Core.Path.{_≡_, ap, _∙_}
 use mathlib.Core.List.{List, [], _++_, append-assoc}
 use Prim.Native.Nat.{ℕ, _+_, _≤_}
 use native.Mathlib.Nat.{add-zero, zero-add, add-assoc}
 use native.Mathlib.Omega.{arith}
 use lib.ListN.{length, take, drop, length-append, length-take, length-drop, take-append-drop}
 use lib.Seq.{sets, sets-eq, length-take-le, take-at, drop-drop}
-use Rattle.rules.specs.declared.Record.{Record}
-use Rattle.rules.specs.Record.{word, words, bytesOf}
+use Rattle.rules.proofs.Lists.{drop-past}
 use Rattle.records.specs.Bytes.{overwrite}
-use Rattle.records.proofs.Lists.{drop-past}
 
 -- Stores one after the other
 pub stored : (bs l : List ℕ) (at : ℕ) → at + length bs ≤ length l → sets l at bs ≡ overwrite at bs l
@@ -50,8 +48,3 @@ overwrite-start bs l = rw zero-add
 pub overwrite-none : (l : List ℕ) (at : ℕ) → overwrite at [] l ≡ l
 unfolding overwrite
 overwrite-none l at = rw add-zero (take-append-drop at l)
-
--- A record has 40 bytes
-pub bytes-length : (r : Record) → length (bytesOf r) ≡ 40
-unfolding bytesOf words word
-bytes-length r = refl

@@ -1,5 +1,5 @@
 -- Laws of tests and of the choices made by them
-use mathlib.Core.Path.{_≡_, refl}
+use mathlib.Core.Path.{_≡_, refl, sym, _∙_}
 use mathlib.Core.Bool.{Bool, true, false, _&&_, _||_, true≢false, false≢true}
 use Rattle.rules.specs.Choice.{pick}
 
@@ -27,6 +27,22 @@ or-left b p = rw p
 pub or-right : (a : Bool) {b : Bool} → b ≡ true → (a || b) ≡ true
 or-right true p = refl
 or-right false p = p
+
+-- A test passes or fails
+pub by-test : {P : Type 0} (t : Bool) → (t ≡ true → P) → (t ≡ false → P) → P
+by-test true p q = p refl
+by-test false p q = q refl
+
+-- Tests that pass together and fail together are the same
+pub by-truth : (x y : Bool) → (x ≡ true → y ≡ true) → (x ≡ false → y ≡ false) → x ≡ y
+by-truth x y p q = by-test x (λ e. e ∙ sym (p e)) (λ e. e ∙ sym (q e))
+
+-- Either of two tests, as code makes the second only where the first fails
+pub either-first : {a p : Bool} (q : Bool) → a ≡ p → a ≡ true → a ≡ p || q
+either-first q e h = rw (sym e ∙ h) h
+
+pub either-second : {a b p q : Bool} → a ≡ p → b ≡ q → a ≡ false → b ≡ p || q
+either-second e f h = rw (sym e ∙ h) f
 
 -- The branch that a known test picks
 pub pick-yes : {A : Type 0} {t : Bool} (x y : A) → t ≡ true → pick t x y ≡ x

@@ -1,5 +1,7 @@
 pub mod Compute
 pub mod Bools
+pub mod Spans
+pub mod Lists
 pub mod Tables
 pub mod WorkedPages
 pub mod WorkedCalls

@@ -4,7 +4,7 @@ use rules::Control;
 use rules::Element;
 use rules::SingleShift;
 ghost use mathlib.Core.Path.{_≡_};
-ghost use Rattle.rules.specs.Coding.{classOf};
+ghost use Rattle.rules.specs.Coding.{controls, classOf};
 
 // What each control does, from 0/0 on.
 const CONTROLS: [Control; 32] = [
@@ -49,11 +49,17 @@ const CONTROLS: [Control; 32] = [
     Control::Barred,
 ];
 
+fn controls() -> [Control; 32]
+    ensures { λ r. ⌜ r ≡ controls ⌝ }
+{
+    CONTROLS
+}
+
 pub fn class_of(b: u8) -> Class
     ensures { λ r. ⌜ r ≡ classOf b ⌝ }
 {
     match b {
-        0..=31 => Class::Below(CONTROLS[b as usize]),
+        0..=31 => Class::Below(controls()[b as usize]),
         32..=47 => Class::Column2,
         _ => Class::Above,
     }

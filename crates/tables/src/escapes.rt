@@ -7,7 +7,7 @@ use rules::Repertoire;
 use rules::Set;
 use rules::Waiting;
 ghost use mathlib.Core.Path.{_≡_};
-ghost use Rattle.rules.specs.Coding.{designatorOf, designatedBy, finalOf, innerOf, afterEscape, unfinished};
+ghost use Rattle.rules.specs.Coding.{designators, designatorOf, designatedBy, finalOf, innerOf, afterEscape, unfinished};
 
 // What is waited for after ESC and each byte of column 2.
 const DESIGNATORS: [Waiting; 16] = [
@@ -31,11 +31,17 @@ const DESIGNATORS: [Waiting; 16] = [
     Waiting::Designator(Element::G3),
 ];
 
+fn designators() -> [Waiting; 16]
+    ensures { λ r. ⌜ r ≡ designators ⌝ }
+{
+    DESIGNATORS
+}
+
 pub fn designator_of(b: u8) -> Waiting
     ensures { λ r. ⌜ r ≡ designatorOf b ⌝ }
 {
     match b {
-        32..=47 => DESIGNATORS[(b - 32) as usize],
+        32..=47 => designators()[(b - 32) as usize],
         _ => Waiting::Longer,
     }
 }

@@ -5,7 +5,7 @@ use rules::Pattern;
 use rules::Role;
 use rules::Row;
 ghost use mathlib.Core.Path.{_≡_};
-ghost use Rattle.rules.specs.Drawing.{rowOf, nth, roleOf, advanced, dueAfter, lengthOf};
+ghost use Rattle.rules.specs.Drawing.{rows, rowOf, nth, roleOf, advanced, dueAfter, lengthOf};
 ghost use Rattle.rules.specs.Ranges.{operandLength};
 
 // The row of an opcode that is skipped.
@@ -174,12 +174,19 @@ const ROWS: [Row; 32] = [
     OTHER,
 ];
 
+// Row for row, the table is that of the rules.
+fn rows() -> [Row; 32]
+    ensures { λ r. ⌜ r ≡ rows ⌝ }
+{
+    ROWS
+}
+
 // The row of the open command. Opcode 0, none open, has the row of a skipped one.
 pub fn row_of(opcode: u8) -> Row
     ensures { λ r. ⌜ r ≡ rowOf opcode ⌝ }
 {
     match opcode {
-        32..=63 => ROWS[(opcode - 32) as usize],
+        32..=63 => rows()[(opcode - 32) as usize],
         _ => OTHER,
     }
 }

@@ -1,7 +1,7 @@
 use mathlib.Core.Path.{sym}
 use lib.Seq.{getD-take}
 use Rattle.rules.specs.Operands.{begun}
-use Rattle.coordinates.proofs.Lists.{take-past}
+use Rattle.rules.proofs.Lists.{take-past}
 use borrow.Author.Needs.{needs}
 use Rattle.coordinates.proofs.byte_of.Statement.{statement}
 use Rattle.coordinates.proofs.byte_of.Tie as tie

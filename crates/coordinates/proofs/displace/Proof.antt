@@ -1,5 +1,5 @@
 use Rattle.rules.specs.Operands.{displaced, displacedOut}
-use Rattle.coordinates.proofs.Sums.{either-first, either-second}
+use Rattle.rules.proofs.Bools.{either-first, either-second}
 use borrow.Author.Needs.{needs}
 use Rattle.coordinates.proofs.displace.Statement.{statement}
 use Rattle.coordinates.proofs.displace.Tie as tie

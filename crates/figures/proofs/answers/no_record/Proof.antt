@@ -1,5 +1,5 @@
-use Rattle.figures.proofs.Carrying.{carry-none}
 use mathlib.Core.Path.{sym}
+use Rattle.figures.proofs.Carrying.{carry-none}
 use Rattle.figures.proofs.answers.no_record.Statement.{statement}
 use Rattle.figures.proofs.answers.no_record.Tie as tie
 
@@ -9,4 +9,7 @@ returns c =
     λ out m. sym (carry-none _ _ (args· .at) out)
 
 pub no-record-spec : {M : Type 1} → statement M
-no-record-spec = tie.close (tie.spec returns)
+no-record-spec =
+    tie.close
+    (tie.spec
+    returns)

@@ -1,17 +1,8 @@
-use Rattle.figures.proofs.Carrying.{carry-one}
 use mathlib.Core.Path.{sym}
+use Rattle.figures.proofs.Carrying.{carry-one}
 use borrow.Author.Needs.{needs}
 use Rattle.figures.proofs.answers.one_record.Statement.{statement}
 use Rattle.figures.proofs.answers.one_record.Tie as tie
-
-put-record-requires : tie.Need-put-record-requires
-put-record-requires c κs = search needs
-
-add-t10 : tie.Need-add-t10
-add-t10 c = search needs
-
-same-length : tie.Need-same-length
-same-length c = search needs
 
 returns : tie.Need-returns
 returns c =
@@ -19,4 +10,10 @@ returns c =
     λ m. rw (put-record· .ensures) (sym (carry-one _ _ _ _ _))
 
 pub one-record-spec : {M : Type 1} → statement M
-one-record-spec = tie.close (tie.spec put-record-requires add-t10 same-length returns)
+one-record-spec =
+    tie.close
+    (tie.spec
+    (λ c κs. search needs)
+    (λ c. search needs)
+    (λ c. search needs)
+    returns)

@@ -4,7 +4,7 @@ use Prim.Native.Nat.{ℕ, _≤_, _-_}
 use native.Mathlib.Omega.{arith}
 use lib.ListN.{length, take, drop, set, length-set}
 use Rattle.rules.specs.Store.{freshStore}
-use Rattle.macros.proofs.ListLaws.{over-more, over-all}
+use Rattle.rules.proofs.Lists.{over-more, over-all}
 use Rattle.macros.proofs.CellLaws.{length-fresh}
 use Rattle.macros.proofs.opening.initialise.Statement.{statement}
 use Rattle.macros.proofs.opening.initialise.Tie as tie

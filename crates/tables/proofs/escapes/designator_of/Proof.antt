@@ -1,16 +1,16 @@
-use mathlib.Core.Path.{refl}
 use Prim.Native.Nat.{_-_}
 use borrow.Author.Needs.{needs}
 use Rattle.rules.specs.declared.Waiting.the-variants.{Longer}
 use Rattle.rules.specs.Coding.{designators, designatorOf}
-use Rattle.tables.proofs.Tables.{at, before, past}
+use Rattle.rules.proofs.Tables.{at, before, past}
 use Rattle.tables.proofs.escapes.designator_of.Statement.{statement}
 use Rattle.tables.proofs.escapes.designator_of.Tie as tie
 
--- `refl` is the test of all rows
 in-table : tie.Need-returns
 unfolding designators designatorOf
-in-table c = at designators refl (c .before .before .before .args .b - 32) _ Longer (search needs)
+in-table c =
+    let b = c .before .before .before .before .args .b in
+    at designators (c .before .designators .ensures) (b - 32) _ Longer (search needs)
 
 before-table : tie.Need-returns-2
 unfolding designators designatorOf
@@ -23,4 +23,11 @@ past-table c = past designators Longer (c .before .before .args .b) 32 (search n
 pub designator-of-spec : {M : Type 1} → statement M
 designator-of-spec =
     tie.close
-    (tie.spec (λ c. search needs) (λ c. search needs) (λ c. search needs) in-table before-table past-table)
+    (tie.spec
+    (λ c κs. search needs)
+    (λ c. search needs)
+    (λ c. search needs)
+    (λ c. search needs)
+    in-table
+    before-table
+    past-table)

@@ -1,7 +1,7 @@
 use borrow.Author.Tests.{ne-eqb}
 use native.Mathlib.Omega.{arith}
 use Rattle.rules.specs.Coding.{finalOf}
-use Rattle.tables.proofs.Spans.{inside, under, over}
+use Rattle.rules.proofs.Spans.{inside, under, over}
 use Rattle.tables.proofs.escapes.final_of.Statement.{statement}
 use Rattle.tables.proofs.escapes.final_of.Tie as tie
 

@@ -1,0 +1,119 @@
+//! Benchmark pages: each of one kind, of any size.
+
+use crate::random::Random;
+
+/// What a benchmark page consists of.
+#[derive(Clone, Copy, Debug, PartialEq, Eq)]
+pub enum BenchKind {
+    /// Data that writes no records: one POINT SET.
+    PointSet,
+    /// Data that writes records: one LINE.
+    Line,
+    /// Characters of the primary set.
+    Characters,
+    /// Calls of bodies nested eight deep.
+    Nested,
+    /// Calls of an empty body.
+    Calls,
+    /// Definitions of bodies of up to 100 bytes.
+    Definitions,
+    /// Short commands of all sorts.
+    Mixed,
+}
+
+/// The kinds and their names.
+pub const KINDS: [(&str, BenchKind); 7] = [
+    ("point-set", BenchKind::PointSet),
+    ("line", BenchKind::Line),
+    ("characters", BenchKind::Characters),
+    ("nested", BenchKind::Nested),
+    ("calls", BenchKind::Calls),
+    ("definitions", BenchKind::Definitions),
+    ("mixed", BenchKind::Mixed),
+];
+
+const ESC: u8 = 0x1B;
+const SHIFT_OUT: u8 = 0x0E;
+const SINGLE_SHIFT: u8 = 0x19;
+const MACRO_TO_G0: [u8; 3] = [ESC, 0x28, 0x7A];
+const MACRO_TO_G2: [u8; 3] = [ESC, 0x2A, 0x7A];
+const END_DEFINITION: [u8; 2] = [ESC, 0x45];
+
+/// A page of about `size` bytes: whole items until the size is reached.
+pub fn page(kind: BenchKind, size: usize) -> Vec<u8> {
+    let mut random = Random::new(kind as u64, 0);
+    let mut page = beginning(kind);
+    while page.len() < size {
+        item(kind, &mut random, &mut page);
+    }
+    page
+}
+
+fn beginning(kind: BenchKind) -> Vec<u8> {
+    match kind {
+        BenchKind::PointSet => vec![SHIFT_OUT, 0x24],
+        BenchKind::Line => vec![SHIFT_OUT, 0x28],
+        BenchKind::Characters | BenchKind::Definitions => Vec::new(),
+        BenchKind::Nested => nested_bodies(),
+        BenchKind::Calls => MACRO_TO_G0.to_vec(),
+        BenchKind::Mixed => vec![SHIFT_OUT],
+    }
+}
+
+/// Names 2/1 to 2/8: each body has two operands and calls the one before.
+fn nested_bodies() -> Vec<u8> {
+    let mut page = MACRO_TO_G2.to_vec();
+    for name in 0x21..=0x28 {
+        page.extend([ESC, 0x40, name, 0x41, 0x50, 0x48]);
+        if name > 0x21 {
+            page.extend([SINGLE_SHIFT, name - 1]);
+        }
+        page.extend([0x42, 0x60, 0x44]);
+        page.extend(END_DEFINITION);
+    }
+    page.extend([SHIFT_OUT, 0x24]);
+    page
+}
+
+fn item(kind: BenchKind, random: &mut Random, page: &mut Vec<u8>) {
+    match kind {
+        BenchKind::PointSet | BenchKind::Line => data(3, random, page),
+        BenchKind::Characters => page.push(random.byte(0x20, 0x7E)),
+        BenchKind::Nested => page.extend([SINGLE_SHIFT, 0x28]),
+        BenchKind::Calls => page.push(random.byte(0x20, 0x7F)),
+        BenchKind::Definitions => {
+            page.extend([ESC, 0x40, random.byte(0x20, 0x5F)]);
+            let length = random.range(0, 100);
+            data(length, random, page);
+            page.extend(END_DEFINITION);
+        }
+        BenchKind::Mixed => {
+            page.push(random.byte(0x24, 0x37));
+            let operands = random.range(1, 3);
+            data(3 * operands, random, page);
+            if random.chance(10) {
+                page.push(random.byte(0x07, 0x0D));
+            }
+        }
+    }
+}
+
+fn data(count: usize, random: &mut Random, page: &mut Vec<u8>) {
+    page.extend((0..count).map(|_| random.byte(0x40, 0x7F)));
+}
+
+#[cfg(test)]
+mod tests {
+    use super::*;
+    use crate::generator::last_number;
+    use crate::Number;
+
+    #[test]
+    fn every_kind_is_accepted() {
+        for (name, kind) in KINDS {
+            let page = page(kind, 20_000);
+            assert!(page.len() >= 20_000);
+            assert_eq!(last_number(&page), Number::Done, "{name}");
+        }
+    }
+}

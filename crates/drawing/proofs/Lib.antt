@@ -1,0 +1,5 @@
+pub mod Refusals
+pub mod RangeLaws
+pub mod OperandLaws
+pub mod ClosingLaws
+pub mod ActionLaws

@@ -1,0 +1,53 @@
+use Rattle.drawing.proofs.ActionLaws.{record-so}
+use mathlib.Core.Path.{_∙_}
+use Rattle.drawing.proofs.ClosingLaws.{close-place}
+use native.Mathlib.Omega.{arith}
+use Rattle.figures.proofs.Carrying.{then-refused, then-drawn}
+use borrow.Author.Needs.{needs}
+use Rattle.drawing.proofs.close_and_mark.Statement.{statement}
+use Rattle.drawing.proofs.close_and_mark.Tie as tie
+
+close-requires : tie.Need-close-requires
+close-requires c κs = search needs
+
+same-length : tie.Need-same-length
+same-length c = search needs
+
+returns : tie.Need-returns
+returns c =
+    let close· = c .before .before .before .close in
+    let if1· = c .if1 in
+    then-refused _ _ _ _ _ _ (close· .ensures) (if1· .taken)
+
+mark-requires : tie.Need-mark-requires
+mark-requires c κs = search needs
+
+one-record-requires : tie.Need-one-record-requires
+one-record-requires c κs =
+    let pre· = c .before .before .before .before .before .before .before .before .before .pre in
+    let close· = c .before .before .before .before .before .close in
+    omega (arith, pre·, close-place _ _ _ _ (close· .ensures))
+
+same-length-2 : tie.Need-same-length-2
+same-length-2 c = search needs
+
+returns-2 : tie.Need-returns-2
+returns-2 c =
+    let close· = c .before .before .before .before .before .before .before .before .close in
+    let if1· = c .before .before .before .before .before .if1 in
+    let pre· = c .before .before .before .before .before .before .before .before .before .before .before .before .pre in
+    let one-record· = c .before .before .one-record in
+    let mark· = c .before .before .before .before .mark in
+    then-drawn _ _ _ _ _ _ _ (close· .ensures) (if1· .left) (omega (arith, pre·)) tt (one-record· .ensures _ ∙ record-so _ _ _ (mark· .ensures))
+
+pub close-and-mark-spec : {M : Type 1} → statement M
+close-and-mark-spec =
+    tie.close
+    (tie.spec
+    close-requires
+    same-length
+    returns
+    mark-requires
+    one-record-requires
+    same-length-2
+    returns-2)

@@ -1,0 +1,72 @@
+use Rattle.figures.specs.Carried.{carry}
+use Rattle.drawing.proofs.ClosingLaws.{complete-place, close-refused, close-drawn}
+use native.Mathlib.Omega.{arith}
+use mathlib.Core.Path.{_∙_}
+use borrow.Author.Needs.{needs}
+use Rattle.drawing.proofs.closing.close.Statement.{statement}
+use Rattle.drawing.proofs.closing.close.Tie as tie
+
+complete-requires : tie.Need-complete-requires
+complete-requires c κs = search needs
+
+same-length : tie.Need-same-length
+same-length c = search needs
+
+returns : tie.Need-returns
+returns c =
+    let pre· = c .before .before .before .before .before .before .before .pre in
+    let complete· = c .before .before .before .complete in
+    let if1· = c .if1 in
+    close-refused _ _ _ _ _ (pre· .0) (complete· .ensures) (if1· .taken)
+
+role-due-requires : tie.Need-role-due-requires
+role-due-requires c κs = search needs
+
+finish-requires : tie.Need-finish-requires
+finish-requires c κs =
+    let pre· = c .before .before .before .before .before .before .before .before .before .pre in
+    let complete· = c .before .before .before .before .before .complete in
+    omega (arith, pre·, complete-place _ _ _ _ _ (complete· .ensures))
+
+rested-requires : tie.Need-rested-requires
+rested-requires c κs = search needs
+
+opened-requires : tie.Need-opened-requires
+opened-requires c κs = search needs
+
+no-record-requires : tie.Need-no-record-requires
+no-record-requires c κs = search needs
+
+same-length-2 : tie.Need-same-length-2
+same-length-2 c =
+    let finish· = c .before .before .before .before .before .finish in
+    let complete· = c .before .before .before .before .before .before .before .before .before .before .before .complete in
+    finish· .kept .1 .1 .1 .1 .1 .0 ∙ complete· .kept .1 .1 .1 .1 .1 .0
+
+returns-2 : tie.Need-returns-2
+unfolding carry
+returns-2 c =
+    let no-record· = c .no-record in
+    let rested· = c .before .before .rested in
+    let opened· = c .before .opened in
+    let pre· = c .before .before .before .before .before .before .before .before .before .before .before .before .before .before .before .pre in
+    let complete· = c .before .before .before .before .before .before .before .before .before .before .before .complete in
+    let if1· = c .before .before .before .before .before .before .before .before .if1 in
+    let role-due· = c .before .before .before .before .before .before .before .role-due in
+    let finish· = c .before .before .before .before .before .finish in
+    (no-record· .ensures _ _ ∙ simp (rested· .ensures, opened· .ensures)) ∙ close-drawn _ _ _ _ _ (pre· .0) (complete· .ensures) _ _ (omega (arith, pre·)) (if1· .left) (role-due· .ensures) (finish· .ensures _)
+
+pub close-spec : {M : Type 1} → statement M
+close-spec =
+    tie.close
+    (tie.spec
+    complete-requires
+    same-length
+    returns
+    role-due-requires
+    finish-requires
+    rested-requires
+    opened-requires
+    no-record-requires
+    same-length-2
+    returns-2)

@@ -1,0 +1,30 @@
+use Rattle.drawing.proofs.ClosingLaws.{none-begun, some-begun}
+use mathlib.Core.Path.{_∙_}
+use borrow.Author.Needs.{needs}
+use Rattle.drawing.proofs.closing.complete.Statement.{statement}
+use Rattle.drawing.proofs.closing.complete.Tie as tie
+
+no-record-requires : tie.Need-no-record-requires
+no-record-requires c κs = search needs
+
+returns : tie.Need-returns
+returns c =
+    let no-record· = c .no-record in
+    let if1· = c .before .if1 in
+    no-record· .ensures _ _ ∙ none-begun _ _ _ _ (if1· .taken)
+
+apply-begun-requires : tie.Need-apply-begun-requires
+apply-begun-requires c κs = search needs
+
+same-length : tie.Need-same-length
+same-length c = search needs
+
+returns-2 : tie.Need-returns-2
+returns-2 c =
+    let apply-begun· = c .before .before .apply-begun in
+    let if1· = c .before .before .before .before .before .if1 in
+    apply-begun· .ensures ∙ some-begun _ _ _ _ (if1· .left)
+
+pub complete-spec : {M : Type 1} → statement M
+complete-spec =
+    tie.close (tie.spec no-record-requires returns apply-begun-requires same-length returns-2)

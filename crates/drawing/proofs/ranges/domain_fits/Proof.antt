@@ -1,0 +1,22 @@
+use Rattle.rules.specs.Ranges.{domainFits}
+use Rattle.drawing.proofs.RangeLaws.{and-first, and-second}
+use borrow.Author.Needs.{needs}
+use Rattle.drawing.proofs.ranges.domain_fits.Statement.{statement}
+use Rattle.drawing.proofs.ranges.domain_fits.Tie as tie
+
+within-requires : tie.Need-within-requires
+within-requires c κs = search needs
+
+within-requires-2 : tie.Need-within-requires-2
+within-requires-2 c κs = search needs
+
+returns : tie.Need-returns
+unfolding domainFits
+returns c = and-second (c .before .before .within .ensures) (c .before .if1 .taken) (c .within2 .ensures)
+
+returns-2 : tie.Need-returns-2
+unfolding domainFits
+returns-2 c = and-first _ (c .before .within .ensures) (c .if1 .left)
+
+pub domain-fits-spec : {M : Type 1} → statement M
+domain-fits-spec = tie.close (tie.spec within-requires within-requires-2 returns returns-2)

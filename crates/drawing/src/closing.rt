@@ -1,0 +1,123 @@
+// Closing: a begun operand is completed and applied, then the command finishes by the operand that is due.
+use crate::operands::apply_begun;
+use crate::operands::rested;
+use crate::operands::role_due;
+use figures::Drawn;
+use figures::answers::ORIGIN;
+use figures::answers::no_record;
+use figures::arcs::arc_to;
+use figures::polygons::closing_edge;
+use rules::Colour;
+use rules::Command;
+use rules::Due;
+use rules::Look;
+use rules::Mode;
+use rules::Pen;
+use rules::Point;
+use rules::Role;
+use rules::Row;
+ghost use mathlib.Core.Path.{_≡_};
+ghost use Prim.Native.Nat.{_+_, _≤_};
+ghost use lib.ListN.{length};
+ghost use Rattle.rules.specs.Drawing.{rowOf, withMode, complete, finish, opened, close};
+ghost use Rattle.figures.specs.Carried.{carryOut, drawingOf, carriedOf, DrawsBy};
+
+// Bytes that have not come are zero bits.
+fn complete(
+    row: Row,
+    pen: Pen,
+    command: Command,
+    look: Look,
+    map: &mut [u8; 48],
+    out: &mut [u8],
+    at: usize,
+) -> Drawn
+    requires { ⌜ (pen .operand .count ≤ 8) × (look .colour .foreground ≤ 15) × (at + 40 ≤ length (now out)) ⌝ }
+    ensures { λ r. ⌜ carriedOf r (now (map .exit)) (now (out .exit)) ≡ carryOut (complete row) (drawingOf pen command look (now (map .entry))) at (now (out .entry)) ⌝ }
+{
+    if pen.operand.count == 0 {
+        return no_record(pen, command, look, at);
+    }
+    apply_begun(row, pen, command, look, map, out, at)
+}
+
+fn direct(look: Look) -> Look
+    ensures { λ r. ⌜ r ≡ record { domain = look .domain; colour = withMode Mode.Direct (look .colour) } ⌝ }
+{
+    let domain = look.domain;
+    let c = look.colour;
+    let colour = Colour {
+        mode: Mode::Direct,
+        green: c.green,
+        red: c.red,
+        blue: c.blue,
+        foreground: c.foreground,
+        background: c.background,
+    };
+    Look { domain, colour }
+}
+
+// An arc with a middle but no end is a circle, a polygon has its closing edge, SELECT COLOUR with no operand sets mode 0.
+fn finish(
+    role: Role,
+    filled: bool,
+    pen: Pen,
+    command: Command,
+    look: Look,
+    out: &mut [u8],
+    at: usize,
+) -> Drawn
+    requires { ⌜ at + 40 ≤ length (now out) ⌝ }
+    ensures { λ r. ⌜ DrawsBy (finish role filled) pen command look at (now (out .entry)) r (now (out .exit)) ⌝ }
+{
+    match role {
+        Role::ArcEnd => arc_to(filled, false, command.start, pen, command, look, out, at),
+        Role::Edge => closing_edge(filled, pen, command, look, out, at),
+        Role::Foreground => no_record(pen, command, direct(look), at),
+        _ => no_record(pen, command, look, at),
+    }
+}
+
+// A command just opened at a point; opcode 0 is none.
+pub fn opened(opcode: u8, point: Point) -> Command
+    ensures { λ r. ⌜ r ≡ opened opcode point ⌝ }
+{
+    Command {
+        opcode,
+        due: Due::First,
+        vertices: 1,
+        start: point,
+        middle: ORIGIN,
+        wrapped: false,
+    }
+}
+
+// Closes the command that the row is of. Only its begun operand can be refused, before anything is written.
+pub fn close(
+    row: Row,
+    pen: Pen,
+    command: Command,
+    look: Look,
+    map: &mut [u8; 48],
+    out: &mut [u8],
+    at: usize,
+) -> Drawn
+    requires { ⌜ (row ≡ rowOf (command .opcode)) × (pen .operand .count ≤ 8) × (look .colour .foreground ≤ 15) × (at + 80 ≤ length (now out)) ⌝ }
+    ensures { λ r. ⌜ carriedOf r (now (map .exit)) (now (out .exit)) ≡ carryOut close (drawingOf pen command look (now (map .entry))) at (now (out .entry)) ⌝ }
+{
+    let done = complete(row, pen, command, look, map, out, at);
+    if done.refused {
+        return done;
+    }
+    let role = role_due(row, done.command);
+    let done = finish(
+        role,
+        row.filled,
+        done.pen,
+        done.command,
+        done.look,
+        out,
+        done.at,
+    );
+    no_record(rested(done.pen), opened(0, ORIGIN), done.look, done.at)
+}

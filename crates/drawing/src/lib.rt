@@ -1,0 +1,132 @@
+// The drawing layer: an action becomes records and a change of the drawing state, or a refusal.
+use crate::closing::close;
+use crate::closing::opened;
+use crate::operands::data_byte;
+use figures::Drawn;
+use figures::answers::no_record;
+use figures::answers::one_record;
+use records::mark;
+use records::set_number;
+use rules::Action;
+use rules::Command;
+use rules::Look;
+use rules::Pen;
+use rules::Row;
+use tables::opcodes::row_of;
+ghost use mathlib.Core.Path.{_≡_};
+ghost use mathlib.Core.Bool.{true};
+ghost use mathlib.Core.List.{[], _∷_};
+ghost use Prim.Native.Nat.{_+_, _≤_};
+ghost use lib.ListN.{length};
+ghost use Rattle.rules.specs.Record.{mark};
+ghost use Rattle.rules.specs.Drawing.{rowOf, Draw, andThen, close, openCommand, act};
+ghost use Rattle.rules.specs.Ranges.{drawingFits};
+ghost use Rattle.figures.specs.Carried.{carryOut, drawingOf, carriedOf, DrawsBy};
+
+pub mod closing;
+pub mod operands;
+pub mod ranges;
+
+// Opens a command, with none open.
+fn open_command(
+    opcode: u8,
+    pen: Pen,
+    command: Command,
+    look: Look,
+    out: &mut [u8],
+    at: usize,
+) -> Drawn
+    requires { ⌜ at + 40 ≤ length (now out) ⌝ }
+    ensures { λ r. ⌜ DrawsBy (openCommand opcode) pen command look at (now (out .entry)) r (now (out .exit)) ⌝ }
+{
+    let fresh = opened(opcode, pen.point);
+    let row = row_of(opcode);
+    if row.kind == 9 {
+        let record = mark(look, 9, 0, opcode, pen.point);
+        return one_record(record, pen, fresh, look, out, at);
+    }
+    no_record(pen, fresh, look, at)
+}
+
+// Closes the command that the row is of, and writes a record of the drawing point.
+fn close_and_mark(
+    row: Row,
+    kind: u8,
+    set: u8,
+    code: u8,
+    pen: Pen,
+    command: Command,
+    look: Look,
+    map: &mut [u8; 48],
+    out: &mut [u8],
+    at: usize,
+) -> Drawn
+    requires { ⌜ (row ≡ rowOf (command .opcode)) × (pen .operand .count ≤ 8) × (look .colour .foreground ≤ 15) × (at + 120 ≤ length (now out)) ⌝ }
+    ensures { λ r. ⌜ carriedOf r (now (map .exit)) (now (out .exit)) ≡ carryOut (λ d. andThen (close d) (λ e. Draw e (mark (e .look) kind set code (e .pen .point) ∷ []))) (drawingOf pen command look (now (map .entry))) at (now (out .entry)) ⌝ }
+{
+    let done = close(row, pen, command, look, map, out, at);
+    if done.refused {
+        return done;
+    }
+    let record = mark(done.look, kind, set, code, done.pen.point);
+    one_record(record, done.pen, done.command, done.look, out, done.at)
+}
+
+fn close_and_open(
+    row: Row,
+    opcode: u8,
+    pen: Pen,
+    command: Command,
+    look: Look,
+    map: &mut [u8; 48],
+    out: &mut [u8],
+    at: usize,
+) -> Drawn
+    requires { ⌜ (row ≡ rowOf (command .opcode)) × (pen .operand .count ≤ 8) × (look .colour .foreground ≤ 15) × (at + 120 ≤ length (now out)) ⌝ }
+    ensures { λ r. ⌜ carriedOf r (now (map .exit)) (now (out .exit)) ≡ carryOut (λ d. andThen (close d) (openCommand opcode)) (drawingOf pen command look (now (map .entry))) at (now (out .entry)) ⌝ }
+{
+    let done = close(row, pen, command, look, map, out, at);
+    if done.refused {
+        return done;
+    }
+    open_command(opcode, done.pen, done.command, done.look, out, done.at)
+}
+
+// The state is in range, and the output has room for three records.
+pub fn act(
+    action: Action,
+    pen: Pen,
+    command: Command,
+    look: Look,
+    map: &mut [u8; 48],
+    out: &mut [u8],
+    at: usize,
+) -> Drawn
+    requires { ⌜ (drawingFits (drawingOf pen command look (now map)) ≡ true) × (at + 120 ≤ length (now out)) ⌝ }
+    ensures { λ r. ⌜ carriedOf r (now (map .exit)) (now (out .exit)) ≡ carryOut (act action) (drawingOf pen command look (now (map .entry))) at (now (out .entry)) ⌝ }
+{
+    match action {
+        Action::Idle => no_record(pen, command, look, at),
+        Action::Close => {
+            let row = row_of(command.opcode);
+            close(row, pen, command, look, map, out, at)
+        }
+        Action::Control(byte) => {
+            let row = row_of(command.opcode);
+            close_and_mark(row, 7, 0, byte, pen, command, look, map, out, at)
+        }
+        Action::Character(set, byte) => {
+            let row = row_of(command.opcode);
+            let number = set_number(set);
+            close_and_mark(row, 6, number, byte, pen, command, look, map, out, at)
+        }
+        Action::Opcode(opcode) => {
+            let row = row_of(command.opcode);
+            close_and_open(row, opcode, pen, command, look, map, out, at)
+        }
+        Action::Data(byte) => {
+            let row = row_of(command.opcode);
+            data_byte(row, byte, pen, command, look, map, out, at)
+        }
+    }
+}

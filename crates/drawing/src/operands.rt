@@ -1,0 +1,132 @@
+// Operands: data bytes join the one that is due, and the last of them applies it.
+use figures::Drawn;
+use figures::answers::no_record;
+use figures::apply;
+use rules::Command;
+use rules::Look;
+use rules::Operand;
+use rules::Pen;
+use rules::Role;
+use rules::Row;
+use tables::opcodes::due_after;
+use tables::opcodes::length_of;
+use tables::opcodes::role_of;
+ghost use mathlib.Core.Path.{_≡_};
+ghost use mathlib.Core.List.{[]};
+ghost use Prim.Native.Nat.{suc, _+_, _<_, _≤_};
+ghost use lib.ListN.{length, set};
+ghost use Rattle.rules.specs.Drawing.{roleOf, noOperand, Draw, nextOperand, applyBegun, dataByte};
+ghost use Rattle.figures.specs.Carried.{carryOut, drawingOf, carriedOf, ChangesBy};
+
+// The drawing point kept, no operand begun.
+pub fn rested(pen: Pen) -> Pen
+    ensures { λ r. ⌜ r ≡ record { point = pen .point; operand = noOperand } ⌝ }
+{
+    let point = pen.point;
+    let operand = Operand {
+        bytes: [0; 8],
+        count: 0,
+    };
+    Pen { point, operand }
+}
+
+// What the operand that is due is for.
+pub fn role_due(row: Row, command: Command) -> Role
+    ensures { λ r. ⌜ r ≡ roleOf (row .pattern) (command .due) ⌝ }
+{
+    let pattern = row.pattern;
+    let due = command.due;
+    role_of(pattern, due)
+}
+
+// The next operand is due, none of it begun.
+fn next_operand(row: Row, pen: Pen, command: Command, look: Look, at: usize) -> Drawn
+    ensures { λ r. ⌜ ChangesBy (λ d. Draw (nextOperand (row .pattern) d) []) pen command look at r ⌝ }
+{
+    let pattern = row.pattern;
+    let due = command.due;
+    let due = due_after(pattern, due);
+    let start = command.start;
+    let middle = command.middle;
+    let next = Command {
+        opcode: command.opcode,
+        due,
+        vertices: command.vertices,
+        start,
+        middle,
+        wrapped: command.wrapped,
+    };
+    no_record(rested(pen), next, look, at)
+}
+
+// Applies the operand that is begun.
+pub fn apply_begun(
+    row: Row,
+    pen: Pen,
+    command: Command,
+    look: Look,
+    map: &mut [u8; 48],
+    out: &mut [u8],
+    at: usize,
+) -> Drawn
+    requires { ⌜ (pen .operand .count ≤ 8) × (look .colour .foreground ≤ 15) × (at + 40 ≤ length (now out)) ⌝ }
+    ensures { λ r. ⌜ carriedOf r (now (map .exit)) (now (out .exit)) ≡ carryOut (applyBegun row) (drawingOf pen command look (now (map .entry))) at (now (out .entry)) ⌝ }
+{
+    let role = role_due(row, command);
+    let done = apply(role, row, pen, command, look, map, out, at);
+    if done.refused {
+        return done;
+    }
+    next_operand(row, done.pen, done.command, done.look, done.at)
+}
+
+fn join_byte(pen: Pen, byte: u8) -> Pen
+    requires { ⌜ pen .operand .count < 8 ⌝ }
+    ensures { λ r. ⌜ r ≡ record { point = pen .point; operand = record { bytes = set (pen .operand .bytes) (pen .operand .count) byte; count = suc (pen .operand .count) } } ⌝ }
+{
+    let point = pen.point;
+    let mut bytes = pen.operand.bytes;
+    let count = pen.operand.count;
+    bytes[count as usize] = byte;
+    let operand = Operand {
+        bytes,
+        count: count + 1,
+    };
+    Pen { point, operand }
+}
+
+// A byte that is dropped, joins the operand, or is its last. A refusal leaves it unread.
+pub fn data_byte(
+    row: Row,
+    byte: u8,
+    pen: Pen,
+    command: Command,
+    look: Look,
+    map: &mut [u8; 48],
+    out: &mut [u8],
+    at: usize,
+) -> Drawn
+    requires { ⌜ (pen .operand .count < 8) × (look .colour .foreground ≤ 15) × (at + 40 ≤ length (now out)) ⌝ }
+    ensures { λ r. ⌜ carriedOf r (now (map .exit)) (now (out .exit)) ≡ carryOut (dataByte row byte) (drawingOf pen command look (now (map .entry))) at (now (out .entry)) ⌝ }
+{
+    let role = role_due(row, command);
+    let length = length_of(role, look.domain);
+    if length == 0 {
+        return no_record(pen, command, look, at);
+    }
+    let longer = join_byte(pen, byte);
+    if longer.operand.count < length {
+        return no_record(longer, command, look, at);
+    }
+    let done = apply_begun(row, longer, command, look, map, out, at);
+    if done.refused {
+        return Drawn {
+            refused: true,
+            at,
+            pen,
+            command,
+            look,
+        };
+    }
+    done
+}

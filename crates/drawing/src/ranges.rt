@@ -1,0 +1,64 @@
+// The ranges of a drawing state that is lent.
+use rules::Colour;
+use rules::Command;
+use rules::Domain;
+use rules::Look;
+use rules::Pen;
+use tables::opcodes::operand_length;
+use tables::opcodes::row_of;
+ghost use mathlib.Core.Path.{_≡_};
+ghost use mathlib.Core.Bool.{_&&_};
+ghost use mathlib.Core.List.{List};
+ghost use Prim.Native.Nat.{ℕ};
+ghost use lib.Dec.{ltb, leb};
+ghost use Rattle.rules.specs.Drawing.{rowOf};
+ghost use Rattle.rules.specs.Ranges.{domainFits, colourFits, opcodeFits, commandFits, operandLength, drawingFits};
+ghost use Rattle.figures.specs.Carried.{drawingOf};
+
+fn within(low: u8, n: u8, high: u8) -> bool
+    ensures { λ r. ⌜ r ≡ (leb low n && leb n high) ⌝ }
+{
+    low <= n && n <= high
+}
+
+pub fn domain_fits(d: Domain) -> bool
+    ensures { λ r. ⌜ r ≡ domainFits d ⌝ }
+{
+    within(1, d.single, 4) && within(1, d.multi, 8)
+}
+
+pub fn colour_fits(c: Colour) -> bool
+    ensures { λ r. ⌜ r ≡ colourFits c ⌝ }
+{
+    c.foreground <= 15 && c.background <= 15
+}
+
+fn opcode_fits(opcode: u8) -> bool
+    ensures { λ r. ⌜ r ≡ opcodeFits opcode ⌝ }
+{
+    opcode == 0 || within(32, opcode, 63)
+}
+
+pub fn command_fits(c: Command) -> bool
+    ensures { λ r. ⌜ r ≡ commandFits c ⌝ }
+{
+    opcode_fits(c.opcode) && c.vertices <= 256
+}
+
+// A begun operand has fewer bytes than those of its command.
+fn operand_fits(pen: Pen, command: Command, domain: Domain) -> bool
+    ensures { λ r. ⌜ r ≡ ltb (pen .operand .count) (operandLength (rowOf (command .opcode) .pattern) domain) ⌝ }
+{
+    let row = row_of(command.opcode);
+    let pattern = row.pattern;
+    pen.operand.count < operand_length(pattern, domain)
+}
+
+pub fn drawing_fits(pen: Pen, command: Command, look: Look) -> bool
+    ensures { λ r. ⌜ ((m : List ℕ) → r ≡ drawingFits (drawingOf pen command look m)) ⌝ }
+{
+    let domain = look.domain;
+    let colour = look.colour;
+    domain_fits(domain)
+        && (colour_fits(colour) && (command_fits(command) && operand_fits(pen, command, domain)))
+}
