@@ -1,4 +1,3 @@
-pub mod Standin
 pub mod Turns
 pub mod Whole
 pub mod StepLaws

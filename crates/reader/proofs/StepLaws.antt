@@ -34,6 +34,7 @@ use Rattle.records.specs.Bytes.{overwrite}
 use Rattle.records.proofs.Writes.{overwrite-none}
 use Rattle.figures.specs.declared.Drawn.{Drawn}
 use Rattle.figures.specs.Carried.{Carried, carry, drawingOf, carriedOf}
+use Rattle.drawing.proofs.Refusals.{OnlyVertices, act-vertices}
 use Rattle.bodies.specs.Stack.{bodiesOf}
 use Rattle.coding.specs.View.{codingOf, reactionOf, Kept}
 use Rattle.coding.specs.declared.reactions.Effect.the-variants.{Refuses, Calls, Acts}
@@ -44,7 +45,6 @@ use Rattle.reader.specs.declared.step.Progress.{Progress}
 use Rattle.reader.specs.declared.step.Turned.{Turned}
 use Rattle.reader.specs.Turn.{onMove, sourceAt, readOn, stepBy, interpreted, Left, leaves}
 use Rattle.reader.specs.View.{stateAt, leftOf}
-use Rattle.reader.proofs.Standin.{Vertices, act-vertices}
 
 -- 6 is for a byte from a body
 pub inside-none : (d : ℕ) (x : Waiting) (b : ℕ) → d ≡ 0 → false ≡ opensInside (sourceAt d) x b
@@ -125,7 +125,7 @@ module _ (budget : ℕ) (p : Progress) (cells places firsts map st out : List �
     unfolding carry onOutcome onMove leaves
     draw-refused t q n = rw q (by (act a drawing) e (act-vertices a drawing))
       where
-        by : (o : Outcome) → carriedOf r map₁ out₁ ≡ carry o drawing (p .written) out → Vertices o
+        by : (o : Outcome) → carriedOf r map₁ out₁ ≡ carry o drawing (p .written) out → OnlyVertices o
             → leftOf budget (stops p TooManyVertices) cells places firsts map₁ st out₁
             ≡ leaves (stepBy (p .depth) x (onOutcome o (codingOf s u firsts) st) before·draw) (p .at) (p .written) out
         by (Refuse·drawing m) f v = rw (v, ap (λ (k : Carried). k .drawing .map) f, ap (λ (k : Carried). k .output) f)

@@ -1,7 +1,6 @@
 // The page reader: open, feed, end, colour and unread.
 pub mod feed;
 pub mod step;
-pub mod stub;
 pub mod turn;
 pub mod unread;
 pub mod verdict;

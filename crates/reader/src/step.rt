@@ -3,7 +3,7 @@ use bodies::MOST_DEPTH;
 use bodies::set_body;
 use coding::react;
 use coding::reactions::Effect;
-use crate::stub::act;
+use drawing::act;
 use macros::names::first_of;
 use rules::Action;
 use rules::Answer;

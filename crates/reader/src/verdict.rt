@@ -1,7 +1,7 @@
 // The tests that come before a feed or an end: 12, then 14, stopped, 13.
 use bodies::bodies_fit;
 use coding::ranges::waiting_fits;
-use crate::stub::drawing_fits;
+use drawing::ranges::drawing_fits;
 use rules::Refusal;
 use rules::Session;
 use rules::Status;

@@ -8,7 +8,7 @@ use Rattle.reader.proofs.step.draw.Reads as reads
 use Rattle.reader.proofs.step.draw.Lts as lts
 use Rattle.reader.proofs.step.ends.Reads as ends-reads
 use Rattle.reader.proofs.step.read_on.Reads as read-on-reads
-use Rattle.reader.proofs.stub.act.Reads as act-reads
+use Rattle.drawing.proofs.act.Reads as act-reads
 
 -- src/step.rt:142:9
 act-requires : tie.Need-act-requires

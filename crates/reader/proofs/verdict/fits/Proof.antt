@@ -1,3 +1,6 @@
+use Rattle.reader.proofs.VerdictLaws.{fits-not, fits-by}
+use borrow.Author.Tests.{not-true, not-false}
+use mathlib.Core.Path.{refl, sym, _∙_}
 use borrow.Author.Needs.{needs}
 use Rattle.reader.proofs.verdict.fits.Statement.{statement}
 use Rattle.reader.proofs.verdict.fits.Tie as tie
@@ -5,7 +8,7 @@ use Rattle.reader.proofs.verdict.fits.Reads as reads
 use Rattle.reader.proofs.verdict.fits.Lts as lts
 use Rattle.bodies.proofs.bodies_fit.Reads as bodies-fit-reads
 use Rattle.coding.proofs.ranges.waiting_fits.Reads as waiting-fits-reads
-use Rattle.reader.proofs.stub.drawing_fits.Reads as drawing-fits-reads
+use Rattle.drawing.proofs.ranges.drawing_fits.Reads as drawing-fits-reads
 
 -- src/verdict.rt:29:9
 bodies-fit-requires : tie.Need-bodies-fit-requires
@@ -13,7 +16,11 @@ bodies-fit-requires c κs = search needs
 
 -- src/verdict.rt:30:9
 returns : tie.Need-returns
-returns c = ?
+returns c =
+    let args· = c .before .before .before .before .before .before .before .before .before .before .args in
+    let bodies-fit· = c .before .bodies-fit in
+    let if1· = c .if1 in
+    fits-not (args· .session) (sym (bodies-fit· .ensures (args· .session .bodies .cells)) ∙ not-true (bodies-fit· .result) (if1· .taken))
 
 -- src/verdict.rt:32:5
 waiting-fits-requires : tie.Need-waiting-fits-requires
@@ -25,11 +32,24 @@ drawing-fits-requires c κs = search needs
 
 -- src/verdict.rt:18:1
 returns-2 : tie.Need-returns-2
-returns-2 c = ?
+returns-2 c =
+    let args· = c .before .before .before .before .before .before .before .before .before .before .before .before .before .args in
+    let bodies-fit· = c .before .before .before .before .bodies-fit in
+    let if1· = c .before .before .before .if1 in
+    let if2· = c .before .if2 in
+    let waiting-fits· = c .before .before .waiting-fits in
+    let drawing-fits· = c .drawing-fits in
+    fits-by (args· .session) (sym (bodies-fit· .ensures (args· .session .bodies .cells)) ∙ not-false (bodies-fit· .result) (if1· .left)) (sym (if2· .taken) ∙ waiting-fits· .ensures) (drawing-fits· .ensures (args· .session .drawing .map))
 
 -- src/verdict.rt:18:1
 returns-3 : tie.Need-returns-3
-returns-3 c = ?
+returns-3 c =
+    let if2· = c .if2 in
+    let args· = c .before .before .before .before .before .before .before .before .before .before .before .before .args in
+    let bodies-fit· = c .before .before .before .bodies-fit in
+    let if1· = c .before .before .if1 in
+    let waiting-fits· = c .before .waiting-fits in
+    if2· .left ∙ fits-by (args· .session) (sym (bodies-fit· .ensures (args· .session .bodies .cells)) ∙ not-false (bodies-fit· .result) (if1· .left)) (sym (if2· .left) ∙ waiting-fits· .ensures) refl
 
 pub fits-spec : {M : Type 1} → statement M
 fits-spec =
