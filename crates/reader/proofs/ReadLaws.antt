@@ -9,16 +9,15 @@ use Rattle.rules.specs.declared.Session.{Session}
 use Rattle.rules.specs.declared.Status.{Status}
 use Rattle.rules.specs.Step.{State}
 use Rattle.rules.specs.Reading.{Room, reading}
-use Rattle.rules.specs.Calls.{Handed, handed}
+use Rattle.rules.specs.Calls.{handed}
 use Rattle.rules.proofs.Steps.{Valid}
 use Rattle.reader.specs.declared.step.Course.the-variants.{GoesOn, Ends}
 use Rattle.reader.specs.declared.step.Progress.{Progress}
 use Rattle.reader.specs.declared.step.Turned.{Turned}
-use Rattle.reader.specs.declared.feed.Fed.{Fed}
 use Rattle.reader.specs.Turn.{turn, leaves}
-use Rattle.reader.specs.View.{stateAt, answered, statusAfter, sessionAfter, leftOf, startOf}
+use Rattle.reader.specs.View.{stateAt, answered, sessionAfter, leftOf, startOf}
 use Rattle.reader.specs.Handing.{stateLent, handedOf}
-use Rattle.reader.proofs.Whole.{Kept, kept-first, kept-next, Next, wholeReading}
+use Rattle.reader.proofs.Whole.{Kept, kept-first, kept-next, wholeReading}
 
 -- The state once a reading has ended, as a session
 ended-state : (a : Answer) (budget : ℕ) (p : Progress) (cells places firsts map st : List ℕ)
@@ -49,19 +48,19 @@ module _ (s : Session) (st₀ piece out₀ : List ℕ) (valid : Valid (stateLent
   module _ (p : Progress) (cells places firsts map st out : List ℕ) (i : Kept first piece out₀ (stateAt (s .budget) p cells places firsts map st) (p .at) (p .written) out)
       (r : Turned) (cells₁ places₁ firsts₁ map₁ st₁ out₁ : List ℕ)
       (e : leftOf (s .budget) r cells₁ places₁ firsts₁ map₁ st₁ out₁ ≡ leaves (turn (length out - p .written) (s .budget - p .steps) (stateAt (s .budget) p cells places firsts map st) (drop (p .at) piece)) (p .at) (p .written) out)
-      where
-    pub loop-on : r .course ≡ GoesOn
-        → (Kept first piece out₀ (stateAt (s .budget) (r .progress) cells₁ places₁ firsts₁ map₁ st₁) (r .progress .at) (r .progress .written) out₁)
-        × (r .progress .steps ≡ 1 + p .steps)
-        × (p .steps < s .budget)
-    loop-on g =
-        rw g at (kept-next first piece out₀ (stateAt (s .budget) p cells places firsts map st) (p .at) (p .written) out (leftOf (s .budget) r cells₁ places₁ firsts₁ map₁ st₁ out₁) i e)
+    where
+      pub loop-on : r .course ≡ GoesOn
+          → (Kept first piece out₀ (stateAt (s .budget) (r .progress) cells₁ places₁ firsts₁ map₁ st₁) (r .progress .at) (r .progress .written) out₁)
+          × (r .progress .steps ≡ 1 + p .steps)
+          × (p .steps < s .budget)
+      loop-on g =
+          rw g at (kept-next first piece out₀ (stateAt (s .budget) p cells places firsts map st) (p .at) (p .written) out (leftOf (s .budget) r cells₁ places₁ firsts₁ map₁ st₁ out₁) i e)
 
-    pub loop-ends : (a : Answer) → r .course ≡ Ends a → (left : Session) → left ≡ sessionAfter a (s .budget) (r .progress) cells₁ places₁ firsts₁ map₁
-        → handedOf (record { answer = a; consumed = r .progress .at; written = r .progress .written; session = left }) st₁ out₁
-        ≡ handed (reading (Room (length out₀)) (s .budget - s .steps) (stateLent s st₀) piece) out₀
-    loop-ends a g left f =
-        ap (λ (w : State). record { answer = a; state = w; consumed = r .progress .at; written = r .progress .written; output = out₁ })
-        (ap (λ (z : Session). stateLent z st₁) f ∙ ended-state a (s .budget) (r .progress) cells₁ places₁ firsts₁ map₁ st₁)
-        ∙ rw g at (kept-next first piece out₀ (stateAt (s .budget) p cells places firsts map st) (p .at) (p .written) out (leftOf (s .budget) r cells₁ places₁ firsts₁ map₁ st₁ out₁) i e)
-        ∙ ap (λ (w : State). handed (wholeReading w piece out₀) out₀) first-lent
+      pub loop-ends : (a : Answer) → r .course ≡ Ends a → (left : Session) → left ≡ sessionAfter a (s .budget) (r .progress) cells₁ places₁ firsts₁ map₁
+          → handedOf (record { answer = a; consumed = r .progress .at; written = r .progress .written; session = left }) st₁ out₁
+          ≡ handed (reading (Room (length out₀)) (s .budget - s .steps) (stateLent s st₀) piece) out₀
+      loop-ends a g left f =
+          ap (λ (w : State). record { answer = a; state = w; consumed = r .progress .at; written = r .progress .written; output = out₁ })
+          (ap (λ (z : Session). stateLent z st₁) f ∙ ended-state a (s .budget) (r .progress) cells₁ places₁ firsts₁ map₁ st₁)
+          ∙ rw g at (kept-next first piece out₀ (stateAt (s .budget) p cells places firsts map st) (p .at) (p .written) out (leftOf (s .budget) r cells₁ places₁ firsts₁ map₁ st₁ out₁) i e)
+          ∙ ap (λ (w : State). handed (wholeReading w piece out₀) out₀) first-lent

@@ -1,14 +1,13 @@
 -- A step by its parts: the body read on, a call, an action, and the reaction that leads to them
 use Prim.Native.Nat.{ℕ, zero, suc, _+_, _-_, _≤_, _<_}
-use native.Mathlib.Nat.{add-zero, not-suc-le-zero}
+use native.Mathlib.Nat.{add-zero}
 use native.Mathlib.Numerals.{add-one, sub-one}
-use native.Mathlib.Omega.{arith}
-use mathlib.Core.Path.{_≡_, refl, sym, ap, _∙_, subst}
+use mathlib.Core.Path.{_≡_, refl, sym, ap, _∙_}
 use mathlib.Core.Bool.{Bool, true, false, _&&_}
-use mathlib.Core.List.{List, []}
+use mathlib.Core.List.{List}
 use mathlib.Core.Logic.{_⊎_, inl, inr}
-use lib.ListN.{length, set}
-use lib.Dec.{ltb, eqb}
+use lib.ListN.{set}
+use lib.Dec.{eqb}
 use borrow.Author.Tests.{lt-ltb, le-ltb}
 use Rattle.rules.specs.declared.Action.{Action}
 use Rattle.rules.specs.declared.Action.the-variants.{Idle}
@@ -21,16 +20,14 @@ use Rattle.rules.specs.declared.Refusal.the-variants.{DefinitionInBody, TooDeep
 use Rattle.rules.specs.declared.Answer.the-variants.{Refused}
 use Rattle.rules.specs.declared.Sets.{Sets}
 use Rattle.rules.specs.declared.Waiting.{Waiting}
-use Rattle.rules.specs.Choice.{pick}
 use Rattle.rules.specs.Store.{firstOf}
-use Rattle.rules.specs.Bodies.{withBody, mostDepth}
+use Rattle.rules.specs.Bodies.{mostDepth}
 use Rattle.rules.specs.Coding.{Reaction, Refuse, Call, React, react, afterEscape}
 use Rattle.rules.specs.Drawing.{Outcome, Refuse as Refuse·drawing, Draw, act}
 use Rattle.rules.specs.Record.{bytesOfAll}
 use Rattle.rules.specs.Reading.{consumedBy}
-use Rattle.rules.specs.Step.{State, withBodies, Source, FromBody, FromPiece, Move, onOutcome, call, onReaction, opensInside, interpret}
-use Rattle.rules.proofs.Bools.{true-false, false-true, pick-yes, pick-no}
-use Rattle.records.specs.Bytes.{overwrite}
+use Rattle.rules.specs.Step.{State, withBodies, Move, onOutcome, call, onReaction, opensInside, interpret}
+use Rattle.rules.proofs.Bools.{true-false, false-true}
 use Rattle.records.proofs.Writes.{overwrite-none}
 use Rattle.figures.specs.declared.Drawn.{Drawn}
 use Rattle.figures.specs.Carried.{Carried, carry, drawingOf, carriedOf}

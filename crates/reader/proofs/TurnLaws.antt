@@ -3,14 +3,13 @@ use Prim.Native.Nat.{ℕ, zero, suc, _+_, _-_, _≤_, _<_}
 use native.Mathlib.Nat.{add-zero}
 use native.Mathlib.Numerals.{add-one, sub-one}
 use native.Mathlib.Omega.{arith}
-use mathlib.Core.Path.{_≡_, refl, sym, ap, _∙_}
+use mathlib.Core.Path.{_≡_, refl, ap, _∙_}
 use mathlib.Core.Bool.{Bool, true, false}
 use mathlib.Core.List.{List, [], _∷_}
 use lib.ListN.{length, drop, getD, drop-of-length-le}
 use lib.Seq.{drop-cons, getD-drop}
 use lib.Dec.{ltb, leb}
 use borrow.Author.Tests.{lt-ltb, le-ltb, leb-true, leb-false, eqb-true}
-use Rattle.rules.specs.declared.Answer.{Answer}
 use Rattle.rules.specs.declared.Answer.the-variants.{Done, Full, Refused}
 use Rattle.rules.specs.declared.Bodies.{Bodies}
 use Rattle.rules.specs.declared.Cursor.{Cursor}
@@ -29,7 +28,7 @@ use Rattle.bodies.specs.Stack.{bodiesOf}
 use Rattle.reader.specs.declared.step.Course.the-variants.{Ends as Ends·course}
 use Rattle.reader.specs.declared.step.Progress.{Progress}
 use Rattle.reader.specs.declared.step.Turned.{Turned}
-use Rattle.reader.specs.Turn.{Turn, Ends, stopped, onMove, onSought, turn, nothingLeft, nextByte, sourceAt, advanced, interpreted, Left, leaves}
+use Rattle.reader.specs.Turn.{Turn, Ends, stopped, onSought, turn, nothingLeft, nextByte, sourceAt, advanced, interpreted, Left, leaves}
 use Rattle.reader.specs.View.{stateAt, atDepth, leftOf, Ready}
 
 -- Whether something is left: of a body, or of the piece

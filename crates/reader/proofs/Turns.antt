@@ -1,5 +1,5 @@
 -- What a turn says of the reading that begins with it
-use Prim.Native.Nat.{ℕ, zero, suc, _+_, _*_, _-_, _≤_}
+use Prim.Native.Nat.{ℕ, zero, suc, _-_, _≤_}
 use native.Mathlib.Omega.{arith}
 use mathlib.Core.Path.{_≡_, refl, sym, ap, _∙_}
 use mathlib.Core.Bool.{Bool, true, false}
@@ -10,7 +10,7 @@ use borrow.Author.Tests.{ltb-false}
 use Rattle.rules.specs.declared.Record.{Record}
 use Rattle.rules.specs.Record.{bytesOfAll}
 use Rattle.rules.specs.Step.{State, removeSpent, Source, FromBody, FromPiece, Sought, NothingLeft, Spoilt, Found, seek, Move, Stops, Goes, interpret}
-use Rattle.rules.specs.Reading.{Reading, Room, roomForStep, rests, consumedBy, after, reading}
+use Rattle.rules.specs.Reading.{Room, roomForStep, rests, consumedBy, after, reading}
 use Rattle.rules.proofs.RecordCount.{records-length}
 use Rattle.rules.proofs.Steps.{Valid, Later, later-then, remove-later, step-later, step-most, seek-rest}
 use Rattle.rules.proofs.Readings.{budget, spoilt, refused, reads-done, reads-full, reads-halt, reads-step}

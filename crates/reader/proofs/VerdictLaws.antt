@@ -1,5 +1,5 @@
 -- The tests before a feed or an end, by their outcomes
-use mathlib.Core.Path.{_≡_, refl, sym, _∙_}
+use mathlib.Core.Path.{_≡_, sym, _∙_}
 use mathlib.Core.Bool.{Bool, true, false, _&&_}
 use mathlib.Core.List.{List}
 use Prim.Native.Nat.{ℕ, _-_}
@@ -15,10 +15,9 @@ use Rattle.rules.specs.declared.Answer.the-variants.{Refused}
 use Rattle.rules.specs.Ranges.{bodiesFit, waitingFits, drawingFits, fits}
 use Rattle.rules.specs.Store.{storeSize}
 use Rattle.rules.specs.Reading.{Room, reading, verdict, tests}
-use Rattle.rules.specs.Calls.{Handed, handed, feed}
+use Rattle.rules.specs.Calls.{handed, feed}
 use Rattle.rules.proofs.Steps.{Valid, tests-valid}
 use Rattle.rules.proofs.Readings.{reads-failed, reads-passed}
-use Rattle.reader.specs.declared.feed.Fed.{Fed}
 use Rattle.reader.specs.Handing.{stateLent, handedOf}
 
 -- The ranges: of the bodies, then of what is waited for, then of drawing

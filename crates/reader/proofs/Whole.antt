@@ -1,10 +1,10 @@
 -- What the loop of a reading keeps: the whole is what was read so far, and then the reading from here
-use Prim.Native.Nat.{ℕ, zero, suc, _+_, _-_, _≤_, _<_}
+use Prim.Native.Nat.{ℕ, _+_, _-_, _≤_, _<_}
 use native.Mathlib.Nat.{add-zero, zero-add, sub-zero, add-suc, suc-add}
 use native.Mathlib.Numerals.{add-one}
 use native.Mathlib.Omega.{arith}
 use mathlib.Core.Path.{_≡_, refl, sym, ap, _∙_, subst}
-use mathlib.Core.List.{List, [], _∷_, _++_, append-nil, append-assoc}
+use mathlib.Core.List.{List, _++_, append-nil, append-assoc}
 use lib.ListN.{length, take, drop, length-append, length-drop, take-append-drop}
 use lib.Seq.{take-at, drop-at, length-take-le, drop-drop}
 use Rattle.rules.specs.declared.Answer.{Answer}
@@ -12,7 +12,7 @@ use Rattle.rules.specs.declared.Record.{Record}
 use Rattle.rules.specs.Record.{bytesOfAll}
 use Rattle.rules.specs.Step.{State, Source, FromBody, FromPiece}
 use Rattle.rules.specs.Reading.{Reading, Room, rests, consumedBy, after, reading}
-use Rattle.rules.specs.Calls.{Handed, handed}
+use Rattle.rules.specs.Calls.{handed}
 use Rattle.rules.proofs.Steps.{Valid}
 use Rattle.records.specs.Bytes.{overwrite}
 use Rattle.records.proofs.Writes.{overwrite-length}

@@ -195,7 +195,28 @@ pub fn interpret(
     let waiting = reacted.waiting;
     match effect {
         Effect::Refuses(refusal) => ends(progress, Answer::Refused(refusal)),
-        Effect::Calls(name) => call(progress, after, cursor, name, sets, waiting, cells, places, firsts),
-        Effect::Acts(action) => draw(progress, after, cursor, action, sets, waiting, cells, places, map, out),
+        Effect::Calls(name) => call(
+            progress,
+            after,
+            cursor,
+            name,
+            sets,
+            waiting,
+            cells,
+            places,
+            firsts,
+        ),
+        Effect::Acts(action) => draw(
+            progress,
+            after,
+            cursor,
+            action,
+            sets,
+            waiting,
+            cells,
+            places,
+            map,
+            out,
+        ),
     }
 }

@@ -1,10 +1,10 @@
 // One turn of a reading: spent bodies are removed, then the checks in their order, then a step.
-use bodies::depth_left;
-use bodies::innermost;
 use crate::step::Progress;
 use crate::step::Turned;
 use crate::step::ends;
 use crate::step::interpret;
+use bodies::depth_left;
+use bodies::innermost;
 use rules::Answer;
 use rules::Cursor;
 use rules::Read;
@@ -92,7 +92,18 @@ pub fn turn(
         Read::BadCell => ends(progress, Answer::Refused(Refusal::OutOfRange)),
         Read::Byte(byte, cursor) => {
             let after = place_after(depth, at);
-            interpret(progress, after, cursor, byte, cells, places, firsts, map, store, out)
+            interpret(
+                progress,
+                after,
+                cursor,
+                byte,
+                cells,
+                places,
+                firsts,
+                map,
+                store,
+                out,
+            )
         }
     }
 }

@@ -5,24 +5,16 @@ use mathlib.Core.Path.{_∙_}
 use borrow.Author.Needs.{needs}
 use Rattle.reader.proofs.feed.feed.Statement.{statement}
 use Rattle.reader.proofs.feed.feed.Tie as tie
-use Rattle.reader.proofs.feed.feed.Reads as reads
-use Rattle.reader.proofs.feed.feed.Lts as lts
-use Rattle.reader.proofs.feed.read.Reads as read-reads
-use Rattle.reader.proofs.verdict.verdict.Reads as verdict-reads
 
--- src/feed.rt:147:11
 verdict-requires : tie.Need-verdict-requires
 verdict-requires c κs = search needs
 
--- src/feed.rt:148:24
 enum-known-refusal : tie.Need-enum-known-refusal
 enum-known-refusal c = search needs
 
--- src/feed.rt:154:42
 enum-told : tie.Need-enum-told
 enum-told c = search needs
 
--- src/feed.rt:154:28
 read-requires : tie.Need-read-requires
 unfolding tests
 read-requires c κs =
@@ -31,7 +23,6 @@ read-requires c κs =
     let enum-told· = c .before .before .enum-told in
     feed-valid (args· .session) (now (args· .store)) (now (args· .piece)) (now (args· .out)) (verdict· .result) (verdict· .ensures) (enum-told· .given .1)
 
--- src/feed.rt:144:1
 returns : tie.Need-returns
 unfolding tests
 returns c =
@@ -40,15 +31,12 @@ returns c =
     let refusal· = c .before .refusal in
     feed-fails (args· .session) (now (args· .store)) (now (args· .piece)) (now (args· .out)) (verdict· .result) (verdict· .ensures) _ (refusal· .given .1)
 
--- src/feed.rt:144:1
 same-length : tie.Need-same-length
 same-length c = search needs
 
--- src/feed.rt:144:1
 same-length-2 : tie.Need-same-length-2
 same-length-2 c = search needs
 
--- src/feed.rt:144:1
 returns-2 : tie.Need-returns-2
 unfolding tests
 returns-2 c =

@@ -9,11 +9,6 @@ use mathlib.Core.Path.{sym, _∙_}
 use Prim.Native.Nat.{_-_}
 use Rattle.reader.proofs.feed.read.Statement.{statement}
 use Rattle.reader.proofs.feed.read.Tie as tie
-use Rattle.reader.proofs.feed.read.Reads as reads
-use Rattle.reader.proofs.feed.read.Lts as lts
-use Rattle.reader.proofs.feed.finish.Reads as finish-reads
-use Rattle.reader.proofs.feed.start.Reads as start-reads
-use Rattle.reader.proofs.turn.turn.Reads as turn-reads
 
 abbrev Inv-loop : tie.InvT-loop
 Inv-loop store₀ piece out₀ budget cells₀ places₀ firsts₀ map₀ progress₀ store out cells places firsts map progress =
@@ -22,11 +17,9 @@ Inv-loop store₀ piece out₀ budget cells₀ places₀ firsts₀ map₀ progre
 abbrev μ-loop : tie.MeasureT-loop
 μ-loop store₀ piece out₀ budget cells₀ places₀ firsts₀ map₀ progress₀ store out cells places firsts map progress = budget - progress .steps
 
--- src/feed.rt:117:9
 start-requires : tie.Need-start-requires Inv-loop μ-loop
 start-requires c κs = search needs
 
--- src/feed.rt:118:5
 loop-holds : tie.Need-loop-holds Inv-loop μ-loop
 loop-holds c =
     let args· = c .before .before .before .before .before .before .before .before .before .before .before .args in
@@ -34,21 +27,17 @@ loop-holds c =
     let start· = c .start in
     loop-first (args· .session) (now (args· .store)) (now (args· .piece)) (now (args· .out)) (pre·) (start· .result) (start· .ensures)
 
--- src/feed.rt:119:13
 turn-requires : tie.Need-turn-requires Inv-loop μ-loop
 turn-requires c κs =
     let loop· = c .before .before .before .before .before .before .loop in
     (loop· .inv .sound, loop· .inv .on, loop· .inv .within)
 
--- src/feed.rt:132:29
 enum-known-course : tie.Need-enum-known-course Inv-loop μ-loop
 enum-known-course c = search needs
 
--- src/feed.rt:133:17
 finish-requires : tie.Need-finish-requires Inv-loop μ-loop
 finish-requires c κs = search needs
 
--- src/feed.rt:134:13
 same-length : tie.Need-same-length Inv-loop μ-loop
 same-length c =
     let turn· = c .before .before .before .before .before .before .before .before .before .turn in
@@ -56,14 +45,12 @@ same-length c =
     let pre· = c .before .before .before .before .before .before .before .before .before .before .before .before .before .before .before .before .before .before .before .before .before .before .before .before .before .before .before .before .pre in
     turn· .kept .1 .1 .1 .1 .1 .1 .0 ∙ valid-store (loop· .inv .sound) ∙ sym (valid-store (pre·))
 
--- src/feed.rt:134:13
 same-length-2 : tie.Need-same-length-2 Inv-loop μ-loop
 same-length-2 c =
     let turn· = c .before .before .before .before .before .before .before .before .before .turn in
     let loop· = c .before .before .before .before .before .before .before .before .before .before .before .before .before .before .before .before .loop in
     turn· .kept .1 .1 .1 .1 .1 .1 .1 .1 .0 ∙ loop· .inv .long
 
--- src/feed.rt:134:13
 returns : tie.Need-returns Inv-loop μ-loop
 returns c =
     let args· = c .before .before .before .before .before .before .before .before .before .before .before .before .before .before .before .before .before .before .before .before .before .before .before .before .before .before .before .before .args in
@@ -78,7 +65,6 @@ returns c =
 enum-told : tie.Need-enum-told Inv-loop μ-loop
 enum-told c = search needs
 
--- src/feed.rt:118:5
 loop-less : tie.Need-loop-less Inv-loop μ-loop
 loop-less c =
     let args· = c .before .before .before .before .before .before .before .before .before .before .before .before .before .before .before .before .before .before .before .before .before .before .before .before .before .before .args in
@@ -90,7 +76,6 @@ loop-less c =
     let on = loop-on (args· .session) (now (args· .store)) (now (args· .piece)) (now (args· .out)) (pre·) (start· .result) (start· .ensures) (loop· .progress) (loop· .cells) (loop· .places) (loop· .firsts) (loop· .map) (loop· .store) (loop· .out) (loop· .inv) (turn· .result) (turn· .last .1 .1 .0) (turn· .last .1 .1 .1 .0) (turn· .last .1 .1 .1 .1 .0) (turn· .last .1 .1 .1 .1 .1 .0) (turn· .last .1 .1 .1 .1 .1 .1 .0) (turn· .last .1 .1 .1 .1 .1 .1 .1 .1 .0) (turn· .ensures) (enum-told· .given .1) in
     omega (arith, on .1, on .2)
 
--- src/feed.rt:118:5
 loop-again : tie.Need-loop-again Inv-loop μ-loop
 loop-again c =
     let args· = c .before .before .before .before .before .before .before .before .before .before .before .before .before .before .before .before .before .before .before .before .before .before .before .before .before .before .args in

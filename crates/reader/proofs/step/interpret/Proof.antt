@@ -7,23 +7,13 @@ use mathlib.Core.Path.{sym, _∙_}
 use borrow.Author.Needs.{needs}
 use Rattle.reader.proofs.step.interpret.Statement.{statement}
 use Rattle.reader.proofs.step.interpret.Tie as tie
-use Rattle.reader.proofs.step.interpret.Reads as reads
-use Rattle.reader.proofs.step.interpret.Lts as lts
-use Rattle.reader.proofs.step.call.Reads as call-reads
-use Rattle.reader.proofs.step.draw.Reads as draw-reads
-use Rattle.reader.proofs.step.ends.Reads as ends-reads
-use Rattle.reader.proofs.step.opens_inside.Reads as opens-inside-reads
-use Rattle.coding.proofs.react.Reads as react-reads
 
--- src/step.rt:186:8
 opens-inside-requires : tie.Need-opens-inside-requires
 opens-inside-requires c κs = search needs
 
--- src/step.rt:187:9
 ends-requires : tie.Need-ends-requires
 ends-requires c κs = search needs
 
--- src/step.rt:187:9
 returns : tie.Need-returns
 returns c =
     let args· = c .before .before .before .before .before .before .args in
@@ -32,23 +22,18 @@ returns c =
     let if1· = c .before .if1 in
     λ budget. byte-inside budget (args· .progress) (now (args· .cells)) (now (args· .places)) (now (args· .firsts)) (now (args· .map)) (now (args· .store)) (now (args· .out)) (args· .cursor) (args· .byte) (ends· .result) (ends· .ensures) (sym (opens-inside· .ensures) ∙ if1· .taken)
 
--- src/step.rt:189:9
 react-requires : tie.Need-react-requires
 react-requires c κs = search needs
 
--- src/step.rt:194:25
 enum-known-effect : tie.Need-enum-known-effect
 enum-known-effect c = search needs
 
--- src/step.rt:194:37
 ends-requires-2 : tie.Need-ends-requires-2
 ends-requires-2 c κs = search needs
 
--- src/step.rt:195:23
 enum-known-effect-2 : tie.Need-enum-known-effect-2
 enum-known-effect-2 c = search needs
 
--- src/step.rt:195:32
 call-requires : tie.Need-call-requires
 call-requires c κs =
     let args· = c .before .before .before .before .before .before .before .before .before .before .before .before .before .before .before .before .before .args in
@@ -58,19 +43,15 @@ call-requires c κs =
     let q = call-name (codingOf (args· .progress .sets) (args· .progress .waiting) (now (args· .firsts))) (now (args· .store)) (args· .byte) (react· .result) (react· .last .1 .1 .0) (react· .last .1 .1 .1 .0) (react· .ensures .0) (effect2· .given .0 .0) (effect2· .given .1) in
     (pre· .0, q .1)
 
--- src/step.rt:196:22
 enum-known-effect-3 : tie.Need-enum-known-effect-3
 enum-known-effect-3 c = search needs
 
--- src/step.rt:196:33
 draw-requires : tie.Need-draw-requires
 draw-requires c κs = search needs
 
--- src/step.rt:169:1
 same-length : tie.Need-same-length
 same-length c = search needs
 
--- src/step.rt:169:1
 returns-2 : tie.Need-returns-2
 returns-2 c =
     let args· = c .before .before .before .before .before .before .before .before .before .before .before .before .before .before .before .args in
@@ -81,11 +62,9 @@ returns-2 c =
     let ends2· = c .ends2 in
     λ budget. byte-refused budget (args· .progress) (now (args· .cells)) (now (args· .places)) (now (args· .firsts)) (now (args· .map)) (now (args· .store)) (now (args· .out)) (args· .cursor) (args· .byte) (sym (opens-inside· .ensures) ∙ if1· .left) (react· .result) (react· .last .1 .1 .0) (react· .last .1 .1 .1 .0) (react· .ensures .0) (effect· .given .0 .0) (effect· .given .1) (react· .ensures .1) (ends2· .result) (ends2· .ensures)
 
--- src/step.rt:169:1
 same-length-2 : tie.Need-same-length-2
 same-length-2 c = search needs
 
--- src/step.rt:169:1
 returns-3 : tie.Need-returns-3
 returns-3 c =
     let args· = c .before .before .before .before .before .before .before .before .before .before .before .before .before .before .before .before .before .before .args in
@@ -96,15 +75,12 @@ returns-3 c =
     let call· = c .call in
     λ budget. byte-calls budget (args· .progress) (now (args· .cells)) (now (args· .places)) (now (args· .firsts)) (now (args· .map)) (now (args· .store)) (now (args· .out)) (args· .cursor) (args· .byte) (sym (opens-inside· .ensures) ∙ if1· .left) (react· .result) (react· .last .1 .1 .0) (react· .last .1 .1 .1 .0) (react· .ensures .0) (effect2· .given .0 .0) (effect2· .given .1) (react· .ensures .1) (leftOf budget (call· .result) (call· .last .1 .1 .1 .1 .1 .1 .0) (call· .last .1 .1 .1 .1 .1 .1 .1 .0) (react· .last .1 .1 .0) (now (args· .map)) (react· .last .1 .1 .1 .0) (now (args· .out))) (call· .ensures budget (now (args· .map)) (react· .last .1 .1 .1 .0) (now (args· .out)))
 
--- src/step.rt:169:1
 same-length-3 : tie.Need-same-length-3
 same-length-3 c = search needs
 
--- src/step.rt:169:1
 same-length-4 : tie.Need-same-length-4
 same-length-4 c = search needs
 
--- src/step.rt:169:1
 returns-4 : tie.Need-returns-4
 returns-4 c =
     let args· = c .before .before .before .before .before .before .before .before .before .before .before .before .before .before .before .before .before .before .before .before .before .args in

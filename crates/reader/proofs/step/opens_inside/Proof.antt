@@ -3,22 +3,16 @@ use mathlib.Core.Path.{sym, _∙_}
 use borrow.Author.Needs.{needs}
 use Rattle.reader.proofs.step.opens_inside.Statement.{statement}
 use Rattle.reader.proofs.step.opens_inside.Tie as tie
-use Rattle.reader.proofs.step.opens_inside.Reads as reads
-use Rattle.reader.proofs.step.opens_inside.Lts as lts
-use Rattle.tables.proofs.escapes.after_escape.Reads as after-escape-reads
 
--- src/step.rt:71:9
 returns : tie.Need-returns
 returns c =
     let args· = c .before .args in
     let if1· = c .if1 in
     inside-none (args· .depth) (args· .waiting) (args· .byte) (if1· .taken)
 
--- src/step.rt:73:5
 after-escape-requires : tie.Need-after-escape-requires
 after-escape-requires c κs = search needs
 
--- src/step.rt:67:1
 returns-2 : tie.Need-returns-2
 returns-2 c =
     let args· = c .before .before .before .args in
@@ -27,7 +21,6 @@ returns-2 c =
     let if2· = c .if2 in
     inside-some (args· .depth) (args· .waiting) (args· .byte) (if1· .left) (sym (after-escape· .ensures) ∙ if2· .taken)
 
--- src/step.rt:67:1
 returns-3 : tie.Need-returns-3
 returns-3 c =
     let if2· = c .if2 in

@@ -1,28 +1,20 @@
 use Rattle.reader.proofs.StepLaws.{on-none, on-some}
-use denote.Ref.{now}
 use borrow.Author.Needs.{needs}
 use Rattle.reader.proofs.step.read_on.Statement.{statement}
 use Rattle.reader.proofs.step.read_on.Tie as tie
-use Rattle.reader.proofs.step.read_on.Reads as reads
-use Rattle.reader.proofs.step.read_on.Lts as lts
-use Rattle.bodies.proofs.set_body.Reads as set-body-reads
 
--- src/step.rt:79:9
 returns : tie.Need-returns
 returns c =
     let args· = c .before .args in
     let if1· = c .if1 in
     on-none (args· .depth) (args· .cursor) _ (if1· .taken)
 
--- src/step.rt:81:29
 sub-set-body : tie.Need-sub-set-body
 sub-set-body c = search needs
 
--- src/step.rt:81:5
 set-body-requires : tie.Need-set-body-requires
 set-body-requires c κs = search needs
 
--- src/step.rt:74:1
 returns-2 : tie.Need-returns-2
 returns-2 c =
     let args· = c .before .before .before .before .args in

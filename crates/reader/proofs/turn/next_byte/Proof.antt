@@ -4,29 +4,22 @@ use mathlib.Core.Path.{_∙_}
 use borrow.Author.Needs.{needs}
 use Rattle.reader.proofs.turn.next_byte.Statement.{statement}
 use Rattle.reader.proofs.turn.next_byte.Tie as tie
-use Rattle.reader.proofs.turn.next_byte.Reads as reads
-use Rattle.reader.proofs.turn.next_byte.Lts as lts
-use Rattle.bodies.proofs.innermost.Reads as innermost-reads
 
--- src/turn.rt:44:27
 shared-slice-read-t9 : tie.Need-shared-slice-read-t9
 shared-slice-read-t9 c =
     let pre· = c .before .before .before .before .pre in
     let if1· = c .before .if1 in
     pre· .2 (if1· .taken)
 
--- src/turn.rt:44:9
 returns : tie.Need-returns
 returns c =
     let args· = c .before .before .before .before .args in
     let if1· = c .before .if1 in
     next-of-piece (args· .depth) (args· .at) (now (args· .store)) _ (now (args· .piece)) (if1· .taken)
 
--- src/turn.rt:46:5
 innermost-requires : tie.Need-innermost-requires
 innermost-requires c κs = search needs
 
--- src/turn.rt:32:1
 returns-2 : tie.Need-returns-2
 returns-2 c =
     let innermost· = c .innermost in

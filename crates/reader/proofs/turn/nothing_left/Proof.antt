@@ -4,17 +4,13 @@ use denote.Ref.{now}
 use mathlib.Core.Path.{_∙_}
 use Rattle.reader.proofs.turn.nothing_left.Statement.{statement}
 use Rattle.reader.proofs.turn.nothing_left.Tie as tie
-use Rattle.reader.proofs.turn.nothing_left.Reads as reads
-use Rattle.reader.proofs.turn.nothing_left.Lts as lts
 
--- src/turn.rt:25:1
 returns : tie.Need-returns
 returns c =
     let args· = c .before .args in
     let if1· = c .if1 in
     left-of-piece (args· .depth) (args· .at) (now (args· .piece)) (if1· .taken)
 
--- src/turn.rt:25:1
 returns-2 : tie.Need-returns-2
 returns-2 c =
     let args· = c .before .args in

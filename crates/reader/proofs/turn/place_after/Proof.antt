@@ -2,24 +2,19 @@ use Rattle.reader.proofs.TurnLaws.{after-piece, after-body}
 use native.Mathlib.Omega.{arith}
 use Rattle.reader.proofs.turn.place_after.Statement.{statement}
 use Rattle.reader.proofs.turn.place_after.Tie as tie
-use Rattle.reader.proofs.turn.place_after.Reads as reads
-use Rattle.reader.proofs.turn.place_after.Lts as lts
 
--- src/turn.rt:54:21
 add-result : tie.Need-add-result
 add-result c =
     let pre· = c .before .pre in
     let if1· = c .if1 in
     omega (arith, pre· (if1· .taken))
 
--- src/turn.rt:50:1
 returns : tie.Need-returns
 returns c =
     let args· = c .before .args in
     let if1· = c .if1 in
     after-piece (args· .depth) (args· .at) (if1· .taken)
 
--- src/turn.rt:50:1
 returns-2 : tie.Need-returns-2
 returns-2 c =
     let args· = c .before .args in

@@ -7,39 +7,24 @@ use mathlib.Core.Path.{sym, ap, _∙_}
 use borrow.Author.Needs.{needs}
 use Rattle.reader.proofs.turn.turn.Statement.{statement}
 use Rattle.reader.proofs.turn.turn.Tie as tie
-use Rattle.reader.proofs.turn.turn.Reads as reads
-use Rattle.reader.proofs.turn.turn.Lts as lts
-use Rattle.reader.proofs.step.ends.Reads as ends-reads
-use Rattle.reader.proofs.step.interpret.Reads as interpret-reads
-use Rattle.bodies.proofs.depth_left.Reads as depth-left-reads
-use Rattle.reader.proofs.turn.at_depth.Reads as at-depth-reads
-use Rattle.reader.proofs.turn.next_byte.Reads as next-byte-reads
-use Rattle.reader.proofs.turn.nothing_left.Reads as nothing-left-reads
-use Rattle.reader.proofs.turn.place_after.Reads as place-after-reads
 
--- src/turn.rt:79:9
 depth-left-requires : tie.Need-depth-left-requires
 depth-left-requires c κs =
     let pre· = c .before .before .before .before .before .before .pre in
     (valid-store (pre· .0), valid-depth (pre· .0))
 
--- src/turn.rt:81:9
 at-depth-requires : tie.Need-at-depth-requires
 at-depth-requires c κs = search needs
 
--- src/turn.rt:82:8
 nothing-left-requires : tie.Need-nothing-left-requires
 nothing-left-requires c κs = search needs
 
--- src/turn.rt:83:9
 ends-requires : tie.Need-ends-requires
 ends-requires c κs = search needs
 
--- src/turn.rt:83:9
 same-length : tie.Need-same-length
 same-length c = search needs
 
--- src/turn.rt:83:9
 returns : tie.Need-returns
 returns c =
     let args· = c .before .before .before .before .before .before .before .before .before .before .before .args in
@@ -50,22 +35,18 @@ returns c =
     let ends· = c .ends in
     turn-done (args· .budget) (args· .progress) (now (args· .cells)) (now (args· .places)) (now (args· .firsts)) (now (args· .map)) (now (args· .store)) (now (args· .piece)) (now (args· .out)) (depth-left· .result) (depth-left· .ensures .0) (at-depth· .result) (at-depth· .ensures) (sym (nothing-left· .ensures) ∙ if1· .taken) (ends· .result) (ends· .ensures)
 
--- src/turn.rt:85:8
 sub-if2 : tie.Need-sub-if2
 sub-if2 c =
     let pre· = c .before .before .before .before .before .before .before .before .before .before .before .pre in
     let at-depth· = c .before .before .before .at-depth in
     omega (arith, pre· .2, ap (λ (p : Progress). p .written) (at-depth· .ensures))
 
--- src/turn.rt:86:9
 ends-requires-2 : tie.Need-ends-requires-2
 ends-requires-2 c κs = search needs
 
--- src/turn.rt:86:9
 same-length-2 : tie.Need-same-length-2
 same-length-2 c = search needs
 
--- src/turn.rt:86:9
 returns-2 : tie.Need-returns-2
 returns-2 c =
     let args· = c .before .before .before .before .before .before .before .before .before .before .before .before .before .args in
@@ -77,15 +58,12 @@ returns-2 c =
     let ends2· = c .ends2 in
     turn-full (args· .budget) (args· .progress) (now (args· .cells)) (now (args· .places)) (now (args· .firsts)) (now (args· .map)) (now (args· .store)) (now (args· .piece)) (now (args· .out)) (depth-left· .result) (depth-left· .ensures .0) (at-depth· .result) (at-depth· .ensures) (sym (nothing-left· .ensures) ∙ if1· .left) (if2· .taken) (ends2· .result) (ends2· .ensures)
 
--- src/turn.rt:89:9
 ends-requires-3 : tie.Need-ends-requires-3
 ends-requires-3 c κs = search needs
 
--- src/turn.rt:89:9
 same-length-3 : tie.Need-same-length-3
 same-length-3 c = search needs
 
--- src/turn.rt:89:9
 returns-3 : tie.Need-returns-3
 returns-3 c =
     let args· = c .before .before .before .before .before .before .before .before .before .before .before .before .before .before .before .args in
@@ -98,7 +76,6 @@ returns-3 c =
     let ends3· = c .ends3 in
     turn-spent (args· .budget) (args· .progress) (now (args· .cells)) (now (args· .places)) (now (args· .firsts)) (now (args· .map)) (now (args· .store)) (now (args· .piece)) (now (args· .out)) (depth-left· .result) (depth-left· .ensures .0) (at-depth· .result) (at-depth· .ensures) (sym (nothing-left· .ensures) ∙ if1· .left) (if2· .left) (if3· .taken) (ends3· .result) (ends3· .ensures)
 
--- src/turn.rt:91:11
 next-byte-requires : tie.Need-next-byte-requires
 next-byte-requires c κs =
     let pre· = c .before .before .before .before .before .before .before .before .before .before .before .before .before .before .before .before .before .pre in
@@ -108,19 +85,15 @@ next-byte-requires c κs =
     let if1· = c .before .before .before .before .before .before .before .if1 in
     (valid-store (pre· .0), omega (arith, depth-left· .ensures .1, valid-depth (pre· .0)), some-of-piece (depth-left· .result) (args· .progress .at) (now (args· .piece)) (sym (nothing-left· .ensures) ∙ if1· .left))
 
--- src/turn.rt:92:57
 enum-told : tie.Need-enum-told
 enum-told c = search needs
 
--- src/turn.rt:92:26
 ends-requires-4 : tie.Need-ends-requires-4
 ends-requires-4 c κs = search needs
 
--- src/turn.rt:93:20
 enum-known-byte : tie.Need-enum-known-byte
 enum-known-byte c = search needs
 
--- src/turn.rt:94:17
 place-after-requires : tie.Need-place-after-requires
 place-after-requires c κs =
     let depth-left· = c .before .before .before .before .before .before .before .before .before .before .before .before .before .before .depth-left in
@@ -130,7 +103,6 @@ place-after-requires c κs =
     let good· = c .before .before .before .before .before .before .before .before .before .before .before .before .before .before .before .before .before .before .before .before .before .good in
     λ h. omega (arith, some-of-piece (depth-left· .result) (args· .progress .at) (now (args· .piece)) (sym (nothing-left· .ensures) ∙ if1· .left) h, good· .1 .1 .1 .1 .1 .1 .1 .0 .0)
 
--- src/turn.rt:95:13
 interpret-requires : tie.Need-interpret-requires
 interpret-requires c κs =
     let args· = c .before .before .before .before .before .before .before .before .before .before .before .before .before .before .before .before .before .before .before .before .before .before .before .before .before .before .before .before .args in
@@ -144,11 +116,9 @@ interpret-requires c κs =
     let r = asked-ready (args· .budget) (args· .progress) (now (args· .cells)) (now (args· .places)) (now (args· .firsts)) (now (args· .map)) (now (args· .store)) (now (args· .piece)) (now (args· .out)) (depth-left· .result) (depth-left· .ensures .0) (at-depth· .result) (at-depth· .ensures) (place-after· .result) (pre· .0) (depth-left· .ensures .1) (if3· .left) (omega (arith, fits· .budget)) (place-after· .ensures) in
     (r .0, valid-store (pre· .0), r .1, r .2, omega (arith, if2· .left))
 
--- src/turn.rt:65:1
 same-length-4 : tie.Need-same-length-4
 same-length-4 c = search needs
 
--- src/turn.rt:65:1
 returns-4 : tie.Need-returns-4
 returns-4 c =
     let args· = c .before .before .before .before .before .before .before .before .before .before .before .before .before .before .before .before .before .before .before .before .before .args in
@@ -163,15 +133,12 @@ returns-4 c =
     let ends4· = c .ends4 in
     turn-bad (args· .budget) (args· .progress) (now (args· .cells)) (now (args· .places)) (now (args· .firsts)) (now (args· .map)) (now (args· .store)) (now (args· .piece)) (now (args· .out)) (depth-left· .result) (depth-left· .ensures .0) (at-depth· .result) (at-depth· .ensures) (sym (nothing-left· .ensures) ∙ if1· .left) (if2· .left) (if3· .left) (next-byte· .result) (next-byte· .ensures) (enum-told· .given .1) (ends4· .result) (ends4· .ensures)
 
--- src/turn.rt:65:1
 same-length-5 : tie.Need-same-length-5
 same-length-5 c = search needs
 
--- src/turn.rt:65:1
 same-length-6 : tie.Need-same-length-6
 same-length-6 c = search needs
 
--- src/turn.rt:65:1
 returns-5 : tie.Need-returns-5
 returns-5 c =
     let args· = c .before .before .before .before .before .before .before .before .before .before .before .before .before .before .before .before .before .before .before .before .before .before .before .before .before .before .before .before .before .before .before .before .before .args in

@@ -8,22 +8,16 @@ use denote.Ref.{now}
 use borrow.Author.Needs.{needs}
 use Rattle.reader.proofs.unread.unread.Statement.{statement}
 use Rattle.reader.proofs.unread.unread.Tie as tie
-use Rattle.reader.proofs.unread.unread.Reads as reads
-use Rattle.reader.proofs.unread.unread.Lts as lts
 
--- src/unread.rt:10:16
 sub-result : tie.Need-sub-result
 sub-result c = search needs
 
--- src/unread.rt:10:16
 part-result-start : tie.Need-part-result-start
 part-result-start c = search needs
 
--- src/unread.rt:10:16
 part-result-end : tie.Need-part-result-end
 part-result-end c = search needs
 
--- src/unread.rt:10:9
 returns : tie.Need-returns
 unfolding unread
 returns c =
@@ -31,19 +25,15 @@ returns c =
     let if1· = c .before .if1 in
     rw (drop-length (now (args· .piece)), drop-of-length-le (now (args· .piece)) {i = args· .consumed} (if1· .taken)) (take-nil (length (now (args· .piece)) - length (now (args· .piece))))
 
--- src/unread.rt:12:5
 sub-result-2 : tie.Need-sub-result-2
 sub-result-2 c = search needs
 
--- src/unread.rt:12:5
 part-result-start-2 : tie.Need-part-result-start-2
 part-result-start-2 c = search needs
 
--- src/unread.rt:12:5
 part-result-end-2 : tie.Need-part-result-end-2
 part-result-end-2 c = search needs
 
--- src/unread.rt:6:1
 returns-2 : tie.Need-returns-2
 unfolding unread
 returns-2 c =

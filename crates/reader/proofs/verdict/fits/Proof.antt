@@ -4,17 +4,10 @@ use mathlib.Core.Path.{refl, sym, _∙_}
 use borrow.Author.Needs.{needs}
 use Rattle.reader.proofs.verdict.fits.Statement.{statement}
 use Rattle.reader.proofs.verdict.fits.Tie as tie
-use Rattle.reader.proofs.verdict.fits.Reads as reads
-use Rattle.reader.proofs.verdict.fits.Lts as lts
-use Rattle.bodies.proofs.bodies_fit.Reads as bodies-fit-reads
-use Rattle.coding.proofs.ranges.waiting_fits.Reads as waiting-fits-reads
-use Rattle.drawing.proofs.ranges.drawing_fits.Reads as drawing-fits-reads
 
--- src/verdict.rt:29:9
 bodies-fit-requires : tie.Need-bodies-fit-requires
 bodies-fit-requires c κs = search needs
 
--- src/verdict.rt:30:9
 returns : tie.Need-returns
 returns c =
     let args· = c .before .before .before .before .before .before .before .before .before .before .args in
@@ -22,15 +15,12 @@ returns c =
     let if1· = c .if1 in
     fits-not (args· .session) (sym (bodies-fit· .ensures (args· .session .bodies .cells)) ∙ not-true (bodies-fit· .result) (if1· .taken))
 
--- src/verdict.rt:32:5
 waiting-fits-requires : tie.Need-waiting-fits-requires
 waiting-fits-requires c κs = search needs
 
--- src/verdict.rt:32:30
 drawing-fits-requires : tie.Need-drawing-fits-requires
 drawing-fits-requires c κs = search needs
 
--- src/verdict.rt:18:1
 returns-2 : tie.Need-returns-2
 returns-2 c =
     let args· = c .before .before .before .before .before .before .before .before .before .before .before .before .before .args in
@@ -41,7 +31,6 @@ returns-2 c =
     let drawing-fits· = c .drawing-fits in
     fits-by (args· .session) (sym (bodies-fit· .ensures (args· .session .bodies .cells)) ∙ not-false (bodies-fit· .result) (if1· .left)) (sym (if2· .taken) ∙ waiting-fits· .ensures) (drawing-fits· .ensures (args· .session .drawing .map))
 
--- src/verdict.rt:18:1
 returns-3 : tie.Need-returns-3
 returns-3 c =
     let if2· = c .if2 in

@@ -2,22 +2,16 @@ use mathlib.Core.Path.{sym, _∙_}
 use borrow.Author.Needs.{needs}
 use Rattle.reader.proofs.verdict.in_range.Statement.{statement}
 use Rattle.reader.proofs.verdict.in_range.Tie as tie
-use Rattle.reader.proofs.verdict.in_range.Reads as reads
-use Rattle.reader.proofs.verdict.in_range.Lts as lts
-use Rattle.reader.proofs.verdict.fits.Reads as fits-reads
 
--- src/verdict.rt:35:8
 fits-requires : tie.Need-fits-requires
 fits-requires c κs = search needs
 
--- src/verdict.rt:36:9
 returns : tie.Need-returns
 returns c =
     let fits2· = c .before .fits2 in
     let if1· = c .if1 in
     rw (sym (fits2· .ensures) ∙ if1· .taken)
 
--- src/verdict.rt:32:1
 returns-2 : tie.Need-returns-2
 returns-2 c =
     let fits2· = c .before .fits2 in

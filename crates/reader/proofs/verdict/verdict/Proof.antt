@@ -1,37 +1,28 @@
 use Rattle.reader.proofs.VerdictLaws.{verdict-by}
 use Rattle.rules.specs.Ranges.{fits}
 use mathlib.Core.Path.{_∙_}
-use borrow.Author.Tests.{eq-eqb, ne-eqb}
+use borrow.Author.Tests.{ne-eqb}
 use borrow.Author.Needs.{needs}
 use Rattle.reader.proofs.verdict.verdict.Statement.{statement}
 use Rattle.reader.proofs.verdict.verdict.Tie as tie
-use Rattle.reader.proofs.verdict.verdict.Reads as reads
-use Rattle.reader.proofs.verdict.verdict.Lts as lts
-use Rattle.reader.proofs.verdict.in_range.Reads as in-range-reads
 
--- src/verdict.rt:45:9
 returns : tie.Need-returns
 returns c =
     let if1· = c .if1 in
     rw (ne-eqb _ _ (if1· .taken))
 
--- src/verdict.rt:49:28
 enum-told : tie.Need-enum-told
 enum-told c = search needs
 
--- src/verdict.rt:49:28
 in-range-requires : tie.Need-in-range-requires
 in-range-requires c κs = search needs
 
--- src/verdict.rt:50:41
 enum-told-2 : tie.Need-enum-told-2
 enum-told-2 c = search needs
 
--- src/verdict.rt:51:25
 enum-known-status : tie.Need-enum-known-status
 enum-known-status c = search needs
 
--- src/verdict.rt:41:1
 returns-2 : tie.Need-returns-2
 returns-2 c =
     let in-range· = c .in-range in
@@ -40,7 +31,6 @@ returns-2 c =
     let enum-told· = c .before .enum-told in
     in-range· .ensures ∙ verdict-by (args· .size) (fits (args· .session)) (if1· .left) (enum-told· .given .1)
 
--- src/verdict.rt:41:1
 returns-3 : tie.Need-returns-3
 returns-3 c =
     let args· = c .before .before .before .args in
@@ -48,7 +38,6 @@ returns-3 c =
     let enum-told2· = c .enum-told2 in
     verdict-by (args· .size) (fits (args· .session)) (if1· .left) (enum-told2· .given .1)
 
--- src/verdict.rt:41:1
 returns-4 : tie.Need-returns-4
 returns-4 c =
     let args· = c .before .before .before .before .args in
