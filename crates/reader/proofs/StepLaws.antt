@@ -41,7 +41,7 @@ use Rattle.reader.specs.declared.step.Course.the-variants.{GoesOn, Ends 
 use Rattle.reader.specs.declared.step.Progress.{Progress}
 use Rattle.reader.specs.declared.step.Turned.{Turned}
 use Rattle.reader.specs.Turn.{onMove, sourceAt, readOn, stepBy, interpreted, Left, leaves}
-use Rattle.reader.specs.View.{stateAt, leftOf}
+use Rattle.reader.specs.View.{stateAt, goesTo, leftOf}
 
 -- 6 is for a byte from a body
 pub inside-none : (d : ℕ) (x : Waiting) (b : ℕ) → d ≡ 0 → false ≡ opensInside (sourceAt d) x b
@@ -70,14 +70,6 @@ on-depth (suc i) x y h = refl
 abbrev stops : Progress → Refusal → Turned
 stops p r = record { course = Ends·course (Refused r); progress = p }
 
--- A step that goes on: the place of the piece, the bodies' depth, and what is left of coding and drawing
-abbrev goesTo : ℕ → ℕ → ℕ → ℕ → Sets → Waiting → Drawing → Turned
-goesTo at written steps depth s x d =
-    record {
-      course = GoesOn;
-      progress = record { at = at; written = written; steps = steps; depth = depth; sets = s; waiting = x; pen = d .pen; command = d .command; look = d .look };
-    }
-
 -- A call
 module _ (budget : ℕ) (p : Progress) (cells places firsts map st out : List ℕ) (x : Cursor) (name : ℕ) (s : Sets) (u : Waiting) where
   abbrev before : State
@@ -91,7 +83,7 @@ module _ (budget : ℕ) (p : Progress) (cells places firsts map st out : List �
 
   called : (y : Bodies) (cells₁ places₁ : List ℕ) (first after : ℕ) → bodiesOf (p .depth) cells₁ places₁ ≡ y → p .depth < mostDepth
       → first ≡ firstOf firsts name → after ≡ consumedBy (sourceAt (p .depth)) (p .at)
-      → leftOf budget (goesTo after (p .written) (p .steps + 1) (p .depth + 1) s u (before .session .drawing)) (set cells₁ (p .depth) first) (set places₁ (p .depth) 0) firsts map st out
+      → leftOf budget (goesTo after (p .written) (p .steps + 1) (p .depth + 1) s u (p .pen) (p .command) (p .look)) (set cells₁ (p .depth) first) (set places₁ (p .depth) 0) firsts map st out
       ≡ leaves (onMove (call name (codingOf s u firsts) (withBodies y before)) (sourceAt (p .depth)) before) (p .at) (p .written) out
   unfolding call onMove leaves bytesOfAll
   called y cells₁ places₁ first after e h f a =
@@ -102,10 +94,11 @@ module _ (budget : ℕ) (p : Progress) (cells places firsts map st out : List �
       → first ≡ firstOf firsts name
       → (cells₂ ≡ set cells₁ (p .depth) first) × (places₂ ≡ set places₁ (p .depth) 0)
       → after ≡ consumedBy (sourceAt (p .depth)) (p .at)
-      → leftOf budget (goesTo after (p .written) (p .steps + 1) (p .depth + 1) s u (before .session .drawing)) cells₂ places₂ firsts map st out
+      → (t : Turned) → t ≡ goesTo after (p .written) (p .steps + 1) (p .depth + 1) s u (p .pen) (p .command) (p .look)
+      → leftOf budget t cells₂ places₂ firsts map st out
       ≡ leaves (stepBy (p .depth) x (call name (codingOf s u firsts)) before) (p .at) (p .written) out
-  call-goes cells₁ places₁ cells₂ places₂ first after h e f g a =
-      rw (g .0, g .1) (called (readOn (p .depth) x (bodiesOf (p .depth) cells places)) cells₁ places₁ first after e h f a)
+  call-goes cells₁ places₁ cells₂ places₂ first after h e f g a t q =
+      rw (q, g .0, g .1) (called (readOn (p .depth) x (bodiesOf (p .depth) cells places)) cells₁ places₁ first after e h f a)
 
 -- An action that drawing answers with r
 module _ (budget : ℕ) (p : Progress) (cells places firsts map st out : List ℕ) (x : Cursor) (a : Action) (s : Sets) (u : Waiting) where
@@ -131,15 +124,16 @@ module _ (budget : ℕ) (p : Progress) (cells places firsts map st out : List �
     pub draw-goes : (cells₁ places₁ : List ℕ) (after : ℕ) → r .refused ≡ false
         → bodiesOf (p .depth) cells₁ places₁ ≡ readOn (p .depth) x (bodiesOf (p .depth) cells places)
         → after ≡ consumedBy (sourceAt (p .depth)) (p .at)
-        → leftOf budget (goesTo after (r .at) (p .steps + 1) (p .depth) s u (drawingOf (r .pen) (r .command) (r .look) map₁)) cells₁ places₁ firsts map₁ st out₁
+        → (t : Turned) → t ≡ goesTo after (r .at) (p .steps + 1) (p .depth) s u (r .pen) (r .command) (r .look)
+        → leftOf budget t cells₁ places₁ firsts map₁ st out₁
         ≡ leaves (stepBy (p .depth) x (onOutcome (act a drawing) (codingOf s u firsts) st) before·draw) (p .at) (p .written) out
     unfolding carry onOutcome onMove leaves
-    draw-goes cells₁ places₁ after t y n = by (act a drawing) e
+    draw-goes cells₁ places₁ after k y n t q = rw q (by (act a drawing) e)
       where
         by : (o : Outcome) → carriedOf r map₁ out₁ ≡ carry o drawing (p .written) out
-            → leftOf budget (goesTo after (r .at) (p .steps + 1) (p .depth) s u (drawingOf (r .pen) (r .command) (r .look) map₁)) cells₁ places₁ firsts map₁ st out₁
+            → leftOf budget (goesTo after (r .at) (p .steps + 1) (p .depth) s u (r .pen) (r .command) (r .look)) cells₁ places₁ firsts map₁ st out₁
             ≡ leaves (stepBy (p .depth) x (onOutcome o (codingOf s u firsts) st) before·draw) (p .at) (p .written) out
-        by (Refuse·drawing m) f = true-false (sym (ap (λ (k : Carried). k .refused) f) ∙ t)
+        by (Refuse·drawing m) f = true-false (sym (ap (λ (k : Carried). k .refused) f) ∙ k)
         by (Draw d rs) f =
             rw (← y, ← n, add-one (p .steps))
             (ap (λ (k : Carried).

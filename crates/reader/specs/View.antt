@@ -2,6 +2,11 @@
 use Prim.Native.Nat.{ℕ, _≤_, _<_}
 use mathlib.Core.Path.{_≡_}
 use mathlib.Core.List.{List}
+use Rattle.rules.specs.declared.Sets.{Sets}
+use Rattle.rules.specs.declared.Waiting.{Waiting}
+use Rattle.rules.specs.declared.Pen.{Pen}
+use Rattle.rules.specs.declared.Command.{Command}
+use Rattle.rules.specs.declared.Look.{Look}
 use Rattle.rules.specs.declared.Session.{Session}
 use Rattle.rules.specs.declared.Status.{Status}
 use Rattle.rules.specs.declared.Status.the-variants.{Running, Stopped}
@@ -36,6 +41,25 @@ startOf s =
       pen = s .drawing .pen;
       command = s .drawing .command;
       look = s .drawing .look;
+    }
+
+-- A step that goes on there
+abbrev pub goesTo : ℕ → ℕ → ℕ → ℕ → Sets → Waiting → Pen → Command → Look → Turned
+goesTo at written steps depth s x p c l =
+    record {
+      course = GoesOn;
+      progress =
+          record {
+            at = at;
+            written = written;
+            steps = steps;
+            depth = depth;
+            sets = s;
+            waiting = x;
+            pen = p;
+            command = c;
+            look = l;
+          };
     }
 
 -- With spent bodies removed

@@ -3,6 +3,7 @@ use bodies::MOST_DEPTH;
 use bodies::set_body;
 use coding::react;
 use coding::reactions::Effect;
+use coding::reactions::Reacted;
 use drawing::act;
 use macros::names::first_of;
 use rules::Action;
@@ -22,14 +23,13 @@ ghost use Prim.Native.Nat.{ℕ, _+_, _≤_, _<_};
 ghost use lib.ListN.{length};
 ghost use Rattle.rules.specs.Drawing.{act};
 ghost use Rattle.rules.specs.Ranges.{waitingFits, drawingFits};
-ghost use Rattle.rules.specs.Reading.{consumedBy};
 ghost use Rattle.rules.specs.Step.{onOutcome, call, opensInside};
 ghost use Rattle.macros.specs.Lent.{Sized, IsName};
 ghost use Rattle.figures.specs.Carried.{drawingOf};
 ghost use Rattle.bodies.specs.Stack.{bodiesOf};
 ghost use Rattle.coding.specs.View.{codingOf};
 ghost use Rattle.reader.specs.Turn.{sourceAt, readOn, stepBy, interpreted, leaves};
-ghost use Rattle.reader.specs.View.{stateAt, leftOf, Ready};
+ghost use Rattle.reader.specs.View.{stateAt, goesTo, leftOf, Ready};
 
 // Where a reading stands between two steps. The arrays of its state are lent beside it.
 pub struct Progress {
@@ -42,6 +42,12 @@ pub struct Progress {
     pub pen: Pen,
     pub command: Command,
     pub look: Look,
+}
+
+// Where reading goes on once a byte is read: in the piece, and in the innermost body.
+pub struct Onward {
+    pub at: usize,
+    pub cursor: Cursor,
 }
 
 pub enum Course {
@@ -60,6 +66,38 @@ pub fn ends(progress: Progress, answer: Answer) -> Turned
     Turned {
         course: Course::Ends(answer),
         progress,
+    }
+}
+
+// A step is accepted, and counts.
+fn goes_on(
+    at: usize,
+    written: usize,
+    steps: u32,
+    depth: u8,
+    reacted: Reacted,
+    pen: Pen,
+    command: Command,
+    look: Look,
+) -> Turned
+    requires { ⌜ steps < 4294967295 ⌝ }
+    ensures { λ r. ⌜ r ≡ goesTo at written (steps + 1) depth (reacted .sets) (reacted .waiting) pen command look ⌝ }
+{
+    let sets = reacted.sets;
+    let waiting = reacted.waiting;
+    Turned {
+        course: Course::GoesOn,
+        progress: Progress {
+            at,
+            written,
+            steps: steps + 1,
+            depth,
+            sets,
+            waiting,
+            pen,
+            command,
+            look,
+        },
     }
 }
 
@@ -86,58 +124,51 @@ fn read_on(cells: &mut [u8; 8], places: &mut [u8; 8], depth: u8, cursor: Cursor)
 
 fn call(
     progress: Progress,
-    after: usize,
-    cursor: Cursor,
+    onward: Onward,
     name: u8,
-    sets: Sets,
-    waiting: Waiting,
+    reacted: Reacted,
     cells: &mut [u8; 8],
     places: &mut [u8; 8],
     firsts: &[u8; 96],
 ) -> Turned
-    requires { ⌜ (Ready progress after) × (IsName name) ⌝ }
-    ensures { λ r. ⌜ ((budget : ℕ) (map st out : List ℕ) → let w = stateAt budget progress (now (cells .entry)) (now (places .entry)) (now (firsts .entry)) map st in leftOf budget r (now (cells .exit)) (now (places .exit)) (now (firsts .entry)) map st out ≡ leaves (stepBy (progress .depth) cursor (call name (codingOf sets waiting (now (firsts .entry)))) w) (progress .at) (progress .written) out) ⌝ }
+    requires { ⌜ (Ready progress (onward .at)) × (IsName name) ⌝ }
+    ensures { λ r. ⌜ ((budget : ℕ) (map st out : List ℕ) → let w = stateAt budget progress (now (cells .entry)) (now (places .entry)) (now (firsts .entry)) map st in leftOf budget r (now (cells .exit)) (now (places .exit)) (now (firsts .entry)) map st out ≡ leaves (stepBy (progress .depth) (onward .cursor) (call name (codingOf (reacted .sets) (reacted .waiting) (now (firsts .entry)))) w) (progress .at) (progress .written) out) ⌝ }
 {
     let depth = progress.depth;
     if MOST_DEPTH <= depth {
         return ends(progress, Answer::Refused(Refusal::TooDeep));
     }
+    let cursor = onward.cursor;
     read_on(cells, places, depth, cursor);
     let cell = first_of(firsts, name);
     set_body(cells, places, depth, Cursor { cell, place: 0 });
     let pen = progress.pen;
     let command = progress.command;
     let look = progress.look;
-    Turned {
-        course: Course::GoesOn,
-        progress: Progress {
-            at: after,
-            written: progress.written,
-            steps: progress.steps + 1,
-            depth: depth + 1,
-            sets,
-            waiting,
-            pen,
-            command,
-            look,
-        },
-    }
+    goes_on(
+        onward.at,
+        progress.written,
+        progress.steps,
+        depth + 1,
+        reacted,
+        pen,
+        command,
+        look,
+    )
 }
 
 fn draw(
     progress: Progress,
-    after: usize,
-    cursor: Cursor,
+    onward: Onward,
     action: Action,
-    sets: Sets,
-    waiting: Waiting,
+    reacted: Reacted,
     cells: &mut [u8; 8],
     places: &mut [u8; 8],
     map: &mut [u8; 48],
     out: &mut [u8],
 ) -> Turned
-    requires { ⌜ (Ready progress after) × (drawingFits (drawingOf (progress .pen) (progress .command) (progress .look) (now map)) ≡ true) × (progress .written + 120 ≤ length (now out)) ⌝ }
-    ensures { λ r. ⌜ ((budget : ℕ) (firsts st : List ℕ) → let w = stateAt budget progress (now (cells .entry)) (now (places .entry)) firsts (now (map .entry)) st in leftOf budget r (now (cells .exit)) (now (places .exit)) firsts (now (map .exit)) st (now (out .exit)) ≡ leaves (stepBy (progress .depth) cursor (onOutcome (act action (w .session .drawing)) (codingOf sets waiting firsts) st) w) (progress .at) (progress .written) (now (out .entry))) ⌝ }
+    requires { ⌜ (Ready progress (onward .at)) × (drawingFits (drawingOf (progress .pen) (progress .command) (progress .look) (now map)) ≡ true) × (progress .written + 120 ≤ length (now out)) ⌝ }
+    ensures { λ r. ⌜ ((budget : ℕ) (firsts st : List ℕ) → let w = stateAt budget progress (now (cells .entry)) (now (places .entry)) firsts (now (map .entry)) st in leftOf budget r (now (cells .exit)) (now (places .exit)) firsts (now (map .exit)) st (now (out .exit)) ≡ leaves (stepBy (progress .depth) (onward .cursor) (onOutcome (act action (w .session .drawing)) (codingOf (reacted .sets) (reacted .waiting) firsts) st) w) (progress .at) (progress .written) (now (out .entry))) ⌝ }
 {
     let pen = progress.pen;
     let command = progress.command;
@@ -147,32 +178,27 @@ fn draw(
         return ends(progress, Answer::Refused(Refusal::TooManyVertices));
     }
     let depth = progress.depth;
+    let cursor = onward.cursor;
     read_on(cells, places, depth, cursor);
     let pen = drawn.pen;
     let command = drawn.command;
     let look = drawn.look;
-    Turned {
-        course: Course::GoesOn,
-        progress: Progress {
-            at: after,
-            written: drawn.at,
-            steps: progress.steps + 1,
-            depth,
-            sets,
-            waiting,
-            pen,
-            command,
-            look,
-        },
-    }
+    goes_on(
+        onward.at,
+        drawn.at,
+        progress.steps,
+        depth,
+        reacted,
+        pen,
+        command,
+        look,
+    )
 }
 
-// Interprets a byte; `after` is the place of the piece once it is read. Only a definition writes to the store,
-// and its action is never refused.
+// Interprets a byte. Only a definition writes to the store, and its action is never refused.
 pub fn interpret(
     progress: Progress,
-    after: usize,
-    cursor: Cursor,
+    onward: Onward,
     byte: u8,
     cells: &mut [u8; 8],
     places: &mut [u8; 8],
@@ -181,8 +207,8 @@ pub fn interpret(
     store: &mut [u8],
     out: &mut [u8],
 ) -> Turned
-    requires { ⌜ (Ready progress after) × (Sized (now store)) × (waitingFits (progress .waiting) ≡ true) × (drawingFits (drawingOf (progress .pen) (progress .command) (progress .look) (now map)) ≡ true) × (progress .written + 120 ≤ length (now out)) ⌝ }
-    ensures { λ r. ⌜ ((budget : ℕ) → leftOf budget r (now (cells .exit)) (now (places .exit)) (now (firsts .exit)) (now (map .exit)) (now (store .exit)) (now (out .exit)) ≡ leaves (interpreted (progress .depth) cursor byte (stateAt budget progress (now (cells .entry)) (now (places .entry)) (now (firsts .entry)) (now (map .entry)) (now (store .entry)))) (progress .at) (progress .written) (now (out .entry))) ⌝ }
+    requires { ⌜ (Ready progress (onward .at)) × (Sized (now store)) × (waitingFits (progress .waiting) ≡ true) × (drawingFits (drawingOf (progress .pen) (progress .command) (progress .look) (now map)) ≡ true) × (progress .written + 120 ≤ length (now out)) ⌝ }
+    ensures { λ r. ⌜ ((budget : ℕ) → leftOf budget r (now (cells .exit)) (now (places .exit)) (now (firsts .exit)) (now (map .exit)) (now (store .exit)) (now (out .exit)) ≡ leaves (interpreted (progress .depth) (onward .cursor) byte (stateAt budget progress (now (cells .entry)) (now (places .entry)) (now (firsts .entry)) (now (map .entry)) (now (store .entry)))) (progress .at) (progress .written) (now (out .entry))) ⌝ }
 {
     let sets = progress.sets;
     let waiting = progress.waiting;
@@ -191,32 +217,9 @@ pub fn interpret(
     }
     let reacted = react(sets, waiting, firsts, store, byte);
     let effect = reacted.effect;
-    let sets = reacted.sets;
-    let waiting = reacted.waiting;
     match effect {
         Effect::Refuses(refusal) => ends(progress, Answer::Refused(refusal)),
-        Effect::Calls(name) => call(
-            progress,
-            after,
-            cursor,
-            name,
-            sets,
-            waiting,
-            cells,
-            places,
-            firsts,
-        ),
-        Effect::Acts(action) => draw(
-            progress,
-            after,
-            cursor,
-            action,
-            sets,
-            waiting,
-            cells,
-            places,
-            map,
-            out,
-        ),
+        Effect::Calls(name) => call(progress, onward, name, reacted, cells, places, firsts),
+        Effect::Acts(action) => draw(progress, onward, action, reacted, cells, places, map, out),
     }
 }

@@ -1,4 +1,5 @@
 // One turn of a reading: spent bodies are removed, then the checks in their order, then a step.
+use crate::step::Onward;
 use crate::step::Progress;
 use crate::step::Turned;
 use crate::step::ends;
@@ -91,11 +92,13 @@ pub fn turn(
     match next_byte(store, cells, places, depth, piece, at) {
         Read::BadCell => ends(progress, Answer::Refused(Refusal::OutOfRange)),
         Read::Byte(byte, cursor) => {
-            let after = place_after(depth, at);
+            let onward = Onward {
+                at: place_after(depth, at),
+                cursor,
+            };
             interpret(
                 progress,
-                after,
-                cursor,
+                onward,
                 byte,
                 cells,
                 places,

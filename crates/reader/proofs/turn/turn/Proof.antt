@@ -152,7 +152,7 @@ returns-5 c =
     let byte· = c .before .before .before .before .before .before .before .before .before .before .before .before .before .byte in
     let interpret· = c .before .before .before .before .interpret in
     turn-byte (args· .budget) (args· .progress) (now (args· .cells)) (now (args· .places)) (now (args· .firsts)) (now (args· .map)) (now (args· .store)) (now (args· .piece)) (now (args· .out)) (depth-left· .result) (depth-left· .ensures .0) (at-depth· .result) (at-depth· .ensures) (sym (nothing-left· .ensures) ∙ if1· .left) (if2· .left) (if3· .left) (next-byte· .result) (next-byte· .ensures) (byte· .given .1)
-    (leftOf (args· .budget) (interpret· .result) (interpret· .last .1 .1 .1 .1 .0) (interpret· .last .1 .1 .1 .1 .1 .0) (interpret· .last .1 .1 .1 .1 .1 .1 .0) (interpret· .last .1 .1 .1 .1 .1 .1 .1 .0) (interpret· .last .1 .1 .1 .1 .1 .1 .1 .1 .0) (interpret· .last .1 .1 .1 .1 .1 .1 .1 .1 .1 .0)) (interpret· .ensures (args· .budget))
+    (leftOf (args· .budget) (interpret· .result) (interpret· .last .1 .1 .1 .0) (interpret· .last .1 .1 .1 .1 .0) (interpret· .last .1 .1 .1 .1 .1 .0) (interpret· .last .1 .1 .1 .1 .1 .1 .0) (interpret· .last .1 .1 .1 .1 .1 .1 .1 .0) (interpret· .last .1 .1 .1 .1 .1 .1 .1 .1 .0)) (interpret· .ensures (args· .budget))
 
 pub turn-spec : {M : Type 1} → statement M
 turn-spec =
