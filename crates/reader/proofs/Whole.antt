@@ -1,0 +1,129 @@
+-- What the loop of a reading keeps: the whole is what was read so far, and then the reading from here
+use Prim.Native.Nat.{ℕ, _+_, _-_, _≤_, _<_}
+use native.Mathlib.Nat.{add-zero, zero-add, sub-zero, add-suc, suc-add}
+use native.Mathlib.Numerals.{add-one}
+use native.Mathlib.Omega.{arith}
+use mathlib.Core.Path.{_≡_, refl, sym, ap, _∙_, subst}
+use mathlib.Core.List.{List, _++_, append-nil, append-assoc}
+use lib.ListN.{length, take, drop, length-append, length-drop, take-append-drop}
+use lib.Seq.{take-at, drop-at, length-take-le, drop-drop}
+use Rattle.rules.specs.declared.Answer.{Answer}
+use Rattle.rules.specs.declared.Record.{Record}
+use Rattle.rules.specs.Record.{bytesOfAll}
+use Rattle.rules.specs.Step.{State, Source, FromBody, FromPiece}
+use Rattle.rules.specs.Reading.{Reading, Room, rests, consumedBy, after, reading}
+use Rattle.rules.specs.Calls.{handed}
+use Rattle.rules.proofs.Steps.{Valid}
+use Rattle.records.specs.Bytes.{overwrite}
+use Rattle.records.proofs.Writes.{overwrite-length}
+use Rattle.reader.specs.declared.step.Course.{Course}
+use Rattle.reader.specs.declared.step.Course.the-variants.{GoesOn, Ends as Ends·course}
+use Rattle.reader.specs.Turn.{Turn, Ends, Steps, turn, Left, leaves}
+use Rattle.reader.proofs.Turns.{Advance, Follows, turn-follows}
+
+-- So many bytes consumed and records written before a reading
+abbrev ahead : ℕ → List ℕ → Reading → Reading
+ahead n rs x = record { answer = x .answer; state = x .state; consumed = n + x .consumed; records = rs ++ x .records }
+
+ahead-after : (s : Source) (n : ℕ) (rs bs : List ℕ) (x : Reading) → ahead n rs (after s bs x) ≡ ahead (consumedBy s n) (rs ++ bs) x
+ahead-after FromBody n rs bs x = rw append-assoc
+ahead-after FromPiece n rs bs x = rw (append-assoc, add-suc, suc-add)
+
+drop-on : (s : Source) (n : ℕ) (l : List ℕ) → drop (consumedBy s 0) (drop n l) ≡ drop (consumedBy s n) l
+drop-on FromBody n l = refl
+drop-on FromPiece n l = drop-drop 1 n l ∙ ap (λ (k : ℕ). drop k l) (add-one n)
+
+consumed-within : (s : Source) (n : ℕ) (l : List ℕ) → n ≤ length l → consumedBy s 0 ≤ length (drop n l) → consumedBy s n ≤ length l
+consumed-within FromBody n l h k = h
+consumed-within FromPiece n l h k = let e = length-drop n l in omega arith
+
+-- What is left to do of the budget
+abbrev budgetLeft : State → ℕ
+budgetLeft w = w .session .budget - w .session .steps
+
+abbrev pub wholeReading : State → List ℕ → List ℕ → Reading
+wholeReading w piece out = reading (Room (length out)) (budgetLeft w) w piece
+
+pub record Kept (w₀ : State) (piece out₀ : List ℕ) (w : State) (at written : ℕ) (out : List ℕ) : Type 0 where
+  pub same : wholeReading w₀ piece out₀ ≡ ahead at (take written out) (reading (Room (length out - written)) (budgetLeft w) w (drop at piece))
+  pub past : drop written out ≡ drop written out₀
+  pub long : length out ≡ length out₀
+  pub within : written ≤ length out
+  pub on : at ≤ length piece
+  pub sound : Valid w
+
+pub kept-first : (w : State) (piece out : List ℕ) → Valid w → Kept w piece out w 0 0 out
+kept-first w piece out v =
+    record {
+      same = simp (sub-zero, zero-add);
+      past = refl;
+      long = refl;
+      within = omega arith;
+      on = omega arith;
+      sound = v;
+    }
+
+module _ (w₀ : State) (piece out₀ : List ℕ) (w : State) (at written : ℕ) (out : List ℕ) where
+  -- A turn that goes on keeps it
+  pub kept-on : {s : Source} {u : State} {rs : List Record} → Kept w₀ piece out₀ w at written out
+      → Advance (length out - written) (budgetLeft w) w (drop at piece) s u rs
+      → Kept w₀ piece out₀ u (consumedBy s at) (written + length (bytesOfAll rs)) (overwrite written (bytesOfAll rs) out)
+  unfolding overwrite
+  kept-on {s} {u} {rs} i f =
+      let bs = bytesOfAll rs in
+      let few = f .few in
+      let free = f .free in
+      let room : written + length bs ≤ length out = omega arith in
+      let lo : length (overwrite written bs out) ≡ length out = overwrite-length bs out written room in
+      let ln : length (take written out ++ bs) ≡ written + length bs = length-append (take written out) bs ∙ ap (λ (n : ℕ). n + length bs) (length-take-le written out (i .within)) in
+      let joined : take written out ++ (bs ++ drop (written + length bs) out) ≡ (take written out ++ bs) ++ drop (written + length bs) out = sym (append-assoc (take written out) bs (drop (written + length bs) out)) in
+      let so-far : take written out ++ bs ≡ take (written + length bs) (overwrite written bs out) =
+      sym (ap (take (written + length bs)) joined ∙ take-at (take written out ++ bs) (drop (written + length bs) out) (written + length bs) ln) in
+      let left : f .rest ≡ budgetLeft u = omega (arith, f .budget, f .later .budget, f .later .steps) in
+      let free-after : length out - written - length bs ≡ length (overwrite written bs out) - (written + length bs) = omega arith in
+      record {
+        same =
+            i .same
+            ∙ ap (ahead at (take written out)) (f .same)
+            ∙ ahead-after s at (take written out) bs (reading (Room (length out - written - length bs)) (f .rest) u (drop (consumedBy s 0) (drop at piece)))
+            ∙ rw (so-far, free-after, left, drop-on s at piece);
+        past =
+            ap (drop (written + length bs)) joined
+            ∙ drop-at (take written out ++ bs) (drop (written + length bs) out) (written + length bs) ln
+            ∙ sym (drop-drop (length bs) written out)
+            ∙ ap (drop (length bs)) (i .past)
+            ∙ drop-drop (length bs) written out₀;
+        long = lo ∙ i .long;
+        within = omega arith;
+        on = consumed-within s at piece (i .on) (f .some);
+        sound = f .later .valid (i .sound);
+      }
+
+  -- A turn that ends the reading hands the whole over
+  pub kept-ends : (a : Answer) (v : State) → Kept w₀ piece out₀ w at written out
+      → reading (Room (length out - written)) (budgetLeft w) w (drop at piece) ≡ rests a v
+      → record { answer = a; state = v; consumed = at; written = written; output = out } ≡ handed (wholeReading w₀ piece out₀) out₀
+  kept-ends a v i f =
+      rw (i .same ∙ ap (ahead at (take written out)) f, append-nil (take written out), length-take-le written out (i .within), add-zero at, ← i .past)
+      (ap (λ (l : List ℕ). record { answer = a; state = v; consumed = at; written = written; output = l }) (sym (take-append-drop written out)))
+
+  abbrev pub Next : Course → Left → Type 0
+  Next GoesOn x =
+      (Kept w₀ piece out₀ (x .state) (x .consumed) (x .written) (x .output))
+      × (x .state .session .steps ≡ 1 + w .session .steps)
+      × (w .session .steps < w .session .budget)
+  Next (Ends·course a) x =
+      record { answer = a; state = x .state; consumed = x .consumed; written = x .written; output = x .output } ≡ handed (wholeReading w₀ piece out₀) out₀
+
+  turn-next : (t : Turn) → Kept w₀ piece out₀ w at written out → Follows (length out - written) (budgetLeft w) w (drop at piece) t
+      → Next (leaves t at written out .course) (leaves t at written out)
+  unfolding leaves
+  turn-next (Ends a v) i f = kept-ends a v i f
+  turn-next (Steps s u rs) i f = (kept-on i f, f .later .steps, omega (arith, f .budget))
+
+  -- What a turn leaves, as a function of it answered
+  pub kept-next : (x : Left) → Kept w₀ piece out₀ w at written out
+      → x ≡ leaves (turn (length out - written) (budgetLeft w) w (drop at piece)) at written out → Next (x .course) x
+  kept-next x i e =
+      subst (λ (y : Left). Next (y .course) y) (sym e)
+      (turn-next (turn (length out - written) (budgetLeft w) w (drop at piece)) i (turn-follows (length out - written) (budgetLeft w) w (drop at piece) (i .sound)))

@@ -1,0 +1,112 @@
+// One turn of a reading: spent bodies are removed, then the checks in their order, then a step.
+use crate::step::Onward;
+use crate::step::Progress;
+use crate::step::Turned;
+use crate::step::ends;
+use crate::step::interpret;
+use bodies::depth_left;
+use bodies::innermost;
+use rules::Answer;
+use rules::Cursor;
+use rules::Read;
+use rules::Refusal;
+ghost use mathlib.Core.Path.{_≡_};
+ghost use Prim.Native.Nat.{_≤_, _<_, _-_};
+ghost use lib.ListN.{length, drop};
+ghost use Rattle.rules.specs.Reading.{consumedBy};
+ghost use Rattle.macros.specs.Lent.{Sized};
+ghost use Rattle.rules.proofs.Steps.{Valid};
+ghost use Rattle.bodies.specs.Stack.{bodiesOf};
+ghost use Rattle.reader.specs.Turn.{turn, nothingLeft, nextByte, sourceAt, leaves};
+ghost use Rattle.reader.specs.View.{stateAt, atDepth, leftOf};
+
+// The most that the records of one step take.
+const ROOM_FOR_STEP: usize = 120;
+
+fn nothing_left(depth: u8, piece: &[u8], at: usize) -> bool
+    ensures { λ r. ⌜ r ≡ nothingLeft depth (drop at (now (piece .entry))) ⌝ }
+{
+    depth == 0 && piece.len() <= at
+}
+
+// The byte of the innermost body, else of the piece.
+fn next_byte(
+    store: &[u8],
+    cells: &[u8; 8],
+    places: &[u8; 8],
+    depth: u8,
+    piece: &[u8],
+    at: usize,
+) -> Read
+    requires { ⌜ (Sized (now store)) × (depth ≤ 8) × (depth ≡ 0 → at < length (now piece)) ⌝ }
+    ensures { λ r. ⌜ r ≡ nextByte depth (now (store .entry)) (bodiesOf depth (now (cells .entry)) (now (places .entry))) (drop at (now (piece .entry))) ⌝ }
+{
+    if depth == 0 {
+        return Read::Byte(piece[at], Cursor { cell: 0, place: 0 });
+    }
+    innermost(store, cells, places, depth)
+}
+
+// The place of the piece once a byte is read.
+fn place_after(depth: u8, at: usize) -> usize
+    requires { ⌜ (depth ≡ 0 → at < 18446744073709551615) ⌝ }
+    ensures { λ r. ⌜ r ≡ consumedBy (sourceAt depth) at ⌝ }
+{
+    if depth == 0 { at + 1 } else { at }
+}
+
+fn at_depth(progress: Progress, depth: u8) -> Progress
+    ensures { λ r. ⌜ r ≡ atDepth depth progress ⌝ }
+{
+    let mut progress = progress;
+    progress.depth = depth;
+    progress
+}
+
+pub fn turn(
+    progress: Progress,
+    budget: u32,
+    cells: &mut [u8; 8],
+    places: &mut [u8; 8],
+    firsts: &mut [u8; 96],
+    map: &mut [u8; 48],
+    store: &mut [u8],
+    piece: &[u8],
+    out: &mut [u8],
+) -> Turned
+    requires { ⌜ (Valid (stateAt budget progress (now cells) (now places) (now firsts) (now map) (now store))) × (progress .at ≤ length (now piece)) × (progress .written ≤ length (now out)) ⌝ }
+    ensures { λ r. ⌜ leftOf budget r (now (cells .exit)) (now (places .exit)) (now (firsts .exit)) (now (map .exit)) (now (store .exit)) (now (out .exit)) ≡ leaves (turn (length (now (out .entry)) - progress .written) (budget - progress .steps) (stateAt budget progress (now (cells .entry)) (now (places .entry)) (now (firsts .entry)) (now (map .entry)) (now (store .entry))) (drop (progress .at) (now (piece .entry)))) (progress .at) (progress .written) (now (out .entry)) ⌝ }
+{
+    let depth = depth_left(store, cells, places, progress.depth);
+    let at = progress.at;
+    let progress = at_depth(progress, depth);
+    if nothing_left(depth, piece, at) {
+        return ends(progress, Answer::Done);
+    }
+    if out.len() - progress.written < ROOM_FOR_STEP {
+        return ends(progress, Answer::Full);
+    }
+    if budget <= progress.steps {
+        return ends(progress, Answer::Refused(Refusal::BudgetUsed));
+    }
+    match next_byte(store, cells, places, depth, piece, at) {
+        Read::BadCell => ends(progress, Answer::Refused(Refusal::OutOfRange)),
+        Read::Byte(byte, cursor) => {
+            let onward = Onward {
+                at: place_after(depth, at),
+                cursor,
+            };
+            interpret(
+                progress,
+                onward,
+                byte,
+                cells,
+                places,
+                firsts,
+                map,
+                store,
+                out,
+            )
+        }
+    }
+}
