@@ -4,3 +4,4 @@ pub mod StepLaws
 pub mod TurnLaws
 pub mod ReadLaws
 pub mod VerdictLaws
+pub mod EndLaws

@@ -1,3 +1,5 @@
 pub mod Turn
 pub mod View
 pub mod Handing
+pub mod Ending
+pub mod Answers

@@ -92,21 +92,11 @@ pub fn turn(
     match next_byte(store, cells, places, depth, piece, at) {
         Read::BadCell => ends(progress, Answer::Refused(Refusal::OutOfRange)),
         Read::Byte(byte, cursor) => {
-            let onward = Onward {
+            let next = Onward {
                 at: place_after(depth, at),
                 cursor,
             };
-            interpret(
-                progress,
-                onward,
-                byte,
-                cells,
-                places,
-                firsts,
-                map,
-                store,
-                out,
-            )
+            interpret(progress, next, byte, cells, places, firsts, map, store, out)
         }
     }
 }

@@ -1,0 +1,161 @@
+// Ending a page.
+use crate::verdict::verdict;
+use bodies::bytes_left;
+use drawing::act;
+use drawing::closing::opened;
+use figures::answers::ORIGIN;
+use rules::Action;
+use rules::Answer;
+use rules::Drawing;
+use rules::Operand;
+use rules::Pen;
+use rules::Refusal;
+use rules::Session;
+use rules::Status;
+use rules::Verdict;
+use tables::escapes::unfinished;
+ghost use mathlib.Core.Path.{_≡_};
+ghost use mathlib.Core.List.{List};
+ghost use Prim.Native.Nat.{ℕ, _≤_};
+ghost use lib.ListN.{length};
+ghost use mathlib.Core.Bool.{true};
+ghost use Rattle.rules.specs.Drawing.{act};
+ghost use Rattle.rules.specs.Ranges.{drawingFits};
+ghost use Rattle.rules.specs.Calls.{handed, ended, ending, end};
+ghost use Rattle.rules.specs.Reading.{roomForStep};
+ghost use Rattle.rules.proofs.RecordCount.{closed};
+ghost use Rattle.rules.proofs.Steps.{Valid};
+ghost use Rattle.reader.specs.Handing.{stateLent};
+ghost use Rattle.reader.specs.Ending.{endingOf, sessionWith};
+
+// Room for three records.
+const ROOM_FOR_STEP: usize = 120;
+
+pub struct Ended {
+    pub answer: Answer,
+    pub written: usize,
+    pub session: Session,
+}
+
+fn with_parts(session: Session, status: Status, drawing: Drawing) -> Session
+    ensures { λ r. ⌜ r ≡ sessionWith status drawing session ⌝ }
+{
+    let bodies = session.bodies;
+    let coding = session.coding;
+    Session {
+        budget: session.budget,
+        steps: session.steps,
+        status,
+        bodies,
+        coding,
+        drawing,
+    }
+}
+
+fn rest(session: Session, answer: Answer) -> Ended
+    ensures { λ r. ⌜ r ≡ record { answer = answer; written = 0; session = session } ⌝ }
+{
+    Ended {
+        answer,
+        written: 0,
+        session,
+    }
+}
+
+fn stop(session: Session, refusal: Refusal) -> Ended
+    ensures { λ r. ⌜ r ≡ record { answer = Answer.Refused refusal; written = 0; session = sessionWith (Status.Stopped refusal) (session .drawing) session } ⌝ }
+{
+    let drawing = session.drawing;
+    rest(
+        with_parts(session, Status::Stopped(refusal), drawing),
+        Answer::Refused(refusal),
+    )
+}
+
+// No command is open: nothing is drawn.
+fn close_none(session: Session) -> Ended
+    ensures { λ r. ⌜ r ≡ record { answer = Answer.Done; written = 0; session = sessionWith Status.Ended (closed (session .drawing)) session } ⌝ }
+{
+    let drawing = session.drawing;
+    let point = drawing.pen.point;
+    let look = drawing.look;
+    let map = drawing.map;
+    let command = opened(0, ORIGIN);
+    let operand = Operand {
+        bytes: [0u8; 8],
+        count: 0,
+    };
+    let drawing = Drawing {
+        pen: Pen { point, operand },
+        command,
+        look,
+        map,
+    };
+    rest(with_parts(session, Status::Ended, drawing), Answer::Done)
+}
+
+fn close_command(session: Session, out: &mut [u8]) -> Ended
+    requires { ⌜ (drawingFits (session .drawing) ≡ true) × (roomForStep ≤ length (now out)) ⌝ }
+    ensures { λ r. ⌜ ((st : List ℕ) → endingOf r st (now (out .exit)) ≡ handed (ended (act Action.Close (session .drawing)) (stateLent session st)) (now (out .entry))) ⌝ }
+{
+    let drawing = session.drawing;
+    let pen = drawing.pen;
+    let command = drawing.command;
+    let look = drawing.look;
+    let mut map = drawing.map;
+    let drawn = act(Action::Close, pen, command, look, &mut map, out, 0);
+    if drawn.refused {
+        return stop(session, Refusal::TooManyVertices);
+    }
+    let pen = drawn.pen;
+    let command = drawn.command;
+    let look = drawn.look;
+    let drawing = Drawing {
+        pen,
+        command,
+        look,
+        map,
+    };
+    let session = with_parts(session, Status::Ended, drawing);
+    Ended {
+        answer: Answer::Done,
+        written: drawn.at,
+        session,
+    }
+}
+
+fn end_running(session: Session, store: &[u8], out: &mut [u8]) -> Ended
+    requires { ⌜ Valid (stateLent session (now store)) ⌝ }
+    ensures { λ r. ⌜ endingOf r (now (store .entry)) (now (out .exit)) ≡ handed (ending (length (now (out .entry))) (stateLent session (now (store .entry)))) (now (out .entry)) ⌝ }
+{
+    let bodies = session.bodies;
+    let cells = bodies.cells;
+    let places = bodies.places;
+    if bytes_left(store, &cells, &places, bodies.depth) {
+        return rest(session, Answer::Refused(Refusal::BodyBytesLeft));
+    }
+    let coding = session.coding;
+    let waiting = coding.waiting;
+    if unfinished(waiting) {
+        return stop(session, Refusal::EndInside);
+    }
+    let drawing = session.drawing;
+    let command = drawing.command;
+    if command.opcode == 0 {
+        return close_none(session);
+    }
+    if out.len() < ROOM_FOR_STEP {
+        return rest(session, Answer::Full);
+    }
+    close_command(session, out)
+}
+
+// Ends a page: closes the open command and hands its last records over.
+pub fn end(session: Session, store: &[u8], out: &mut [u8]) -> Ended
+    ensures { λ r. ⌜ endingOf r (now (store .entry)) (now (out .exit)) ≡ end (stateLent session (now (store .entry))) (now (out .entry)) ⌝ }
+{
+    match verdict(session, store.len()) {
+        Verdict::Fails(refusal) => rest(session, Answer::Refused(refusal)),
+        Verdict::Passes => end_running(session, store, out),
+    }
+}

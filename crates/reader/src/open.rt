@@ -1,0 +1,130 @@
+// Opening a page.
+use macros::opening::initialise;
+use rules::Answer;
+use rules::Bodies;
+use rules::Coding;
+use rules::Colour;
+use rules::Command;
+use rules::Domain;
+use rules::Drawing;
+use rules::Due;
+use rules::Element;
+use rules::Look;
+use rules::Mode;
+use rules::Operand;
+use rules::Pen;
+use rules::Point;
+use rules::Refusal;
+use rules::Repertoire;
+use rules::Session;
+use rules::Set;
+use rules::Sets;
+use rules::Status;
+use rules::Waiting;
+ghost use mathlib.Core.Path.{_≡_};
+ghost use Rattle.rules.specs.Drawing.{freshDrawing};
+ghost use Rattle.rules.specs.Calls.{freshSession, openPage};
+ghost use Rattle.reader.specs.Answers.{openingOf};
+
+const STORE_SIZE: usize = 8192;
+
+const ORIGIN: Point = Point { x: 0, y: 0 };
+
+pub struct Opened {
+    pub answer: Answer,
+    pub session: Session,
+}
+
+fn fresh_look() -> Look
+    ensures { λ r. ⌜ r ≡ freshDrawing .look ⌝ }
+{
+    Look {
+        domain: Domain {
+            single: 1,
+            multi: 3,
+            three: false,
+            pel: ORIGIN,
+        },
+        colour: Colour {
+            mode: Mode::Direct,
+            green: 255,
+            red: 255,
+            blue: 255,
+            foreground: 0,
+            background: 0,
+        },
+    }
+}
+
+fn fresh_drawing() -> Drawing
+    ensures { λ r. ⌜ r ≡ freshDrawing ⌝ }
+{
+    let look = fresh_look();
+    Drawing {
+        pen: Pen {
+            point: ORIGIN,
+            operand: Operand {
+                bytes: [0u8; 8],
+                count: 0,
+            },
+        },
+        command: Command {
+            opcode: 0,
+            due: Due::First,
+            vertices: 1,
+            start: ORIGIN,
+            middle: ORIGIN,
+            wrapped: false,
+        },
+        look,
+        map: [0u8; 48],
+    }
+}
+
+fn fresh_session(status: Status, budget: u32) -> Session
+    ensures { λ r. ⌜ r ≡ freshSession status budget ⌝ }
+{
+    let drawing = fresh_drawing();
+    Session {
+        budget,
+        steps: 0,
+        status,
+        bodies: Bodies {
+            depth: 0,
+            cells: [0u8; 8],
+            places: [0u8; 8],
+        },
+        coding: Coding {
+            sets: Sets {
+                g0: Set::Characters(Repertoire::Primary),
+                g1: Set::Pdi,
+                g2: Set::Characters(Repertoire::Supplementary),
+                g3: Set::Characters(Repertoire::Mosaic),
+                used: Element::G0,
+            },
+            waiting: Waiting::Nothing,
+            firsts: [0u8; 96],
+        },
+        drawing,
+    }
+}
+
+// Opens a page with a budget of steps. A store of another size is left as it is, and the session is stopped.
+pub fn open(store: &mut [u8], budget: u32) -> Opened
+    ensures { λ r. ⌜ openingOf r (now (store .exit)) ≡ openPage budget (now (store .entry)) ⌝ }
+{
+    if store.len() != STORE_SIZE {
+        let refusal = Refusal::StoreSize;
+        let session = fresh_session(Status::Stopped(refusal), budget);
+        return Opened {
+            answer: Answer::Refused(refusal),
+            session,
+        };
+    }
+    initialise(store);
+    let session = fresh_session(Status::Running, budget);
+    Opened {
+        answer: Answer::Done,
+        session,
+    }
+}
