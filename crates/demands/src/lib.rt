@@ -1,0 +1,1 @@
+// No functions: what the calls' contracts and the theorems about the rules say together.
