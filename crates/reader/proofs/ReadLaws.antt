@@ -1,35 +1,56 @@
 -- The loop of a reading over the parts that the code holds
-use Prim.Native.Nat.{ℕ, _+_, _-_, _<_}
+use Prim.Native.Nat.{ℕ, _+_, _-_, _<_, _≤_}
 use mathlib.Core.Path.{_≡_, refl, sym, ap, _∙_, subst}
+use mathlib.Core.Bool.{true, false}
 use mathlib.Core.List.{List}
 use lib.ListN.{length, drop}
+use Rattle.rules.specs.declared.Action.{Action}
 use Rattle.rules.specs.declared.Answer.{Answer}
 use Rattle.rules.specs.declared.Answer.the-variants.{Done, Full, Refused}
+use Rattle.rules.specs.declared.Command.{Command}
+use Rattle.rules.specs.declared.Drawing.{Drawing}
+use Rattle.rules.specs.declared.Look.{Look}
+use Rattle.rules.specs.declared.Pen.{Pen}
+use Rattle.rules.specs.declared.Refusal.the-variants.{TooManyVertices}
 use Rattle.rules.specs.declared.Session.{Session}
 use Rattle.rules.specs.declared.Status.{Status}
 use Rattle.rules.specs.Step.{State}
-use Rattle.rules.specs.Reading.{Room, reading}
-use Rattle.rules.specs.Calls.{handed}
+use Rattle.rules.specs.Drawing.{act}
+use Rattle.rules.specs.Reading.{Room, roomForStep, reading}
+use Rattle.rules.specs.Calls.{Handed, handed}
 use Rattle.rules.proofs.Steps.{Valid}
-use Rattle.reader.specs.declared.step.Course.the-variants.{GoesOn, Ends}
+use Rattle.figures.specs.declared.Drawn.{Drawn}
+use Rattle.figures.specs.Carried.{carry, drawingOf, carriedOf}
+use Rattle.bodies.specs.Stack.{bodiesOf}
+use Rattle.reader.specs.declared.step.Course.the-variants.{GoesOn, Ends, Draws}
 use Rattle.reader.specs.declared.step.Progress.{Progress}
 use Rattle.reader.specs.declared.step.Turned.{Turned}
-use Rattle.reader.specs.Turn.{turn, leaves}
-use Rattle.reader.specs.View.{stateAt, answered, sessionAfter, leftOf, startOf}
-use Rattle.reader.specs.Handing.{stateLent, handedOf}
-use Rattle.reader.proofs.Whole.{Kept, kept-first, kept-next, wholeReading}
+use Rattle.reader.specs.declared.feed.Fed.{Fed}
+use Rattle.reader.specs.Turn.{turn, Left, leaves}
+use Rattle.reader.specs.View.{stateAt, answered, sessionAfter, leftOf, startOf, atDepth, writtenTo, DueBy, Due, RoomBy, readOnIf}
+use Rattle.reader.specs.Handing.{stateLent, handedOf, fedOf}
+use Rattle.reader.proofs.StepLaws.{draw-refused, draw-goes}
+use Rattle.reader.proofs.Whole.{Kept, Next, kept-first, kept-next, wholeReading}
 
 -- The state once a reading has ended, as a session
-ended-state : (a : Answer) (budget : ℕ) (p : Progress) (cells places firsts map st : List ℕ)
-    → stateLent (sessionAfter a budget p cells places firsts map) st ≡ answered a (stateAt budget p cells places firsts map st)
-ended-state Done budget p cells places firsts map st = refl
-ended-state Full budget p cells places firsts map st = refl
-ended-state (Refused r) budget p cells places firsts map st = refl
+ended-state : (a : Answer) (budget : ℕ) (p : Progress) (cells places firsts : List ℕ) (d : Drawing) (st : List ℕ)
+    → stateLent (sessionAfter a budget p cells places firsts d) st ≡ answered a (stateAt budget p cells places firsts d st)
+ended-state Done budget p cells places firsts d st = refl
+ended-state Full budget p cells places firsts d st = refl
+ended-state (Refused r) budget p cells places firsts d st = refl
+
+-- What is asked of drawing
+pub drawn-due : (r : Turned) (p : Progress) (a : Action) → r .course ≡ Draws a → Due (atDepth (r .progress .depth) p) r
+    → DueBy (Draws a) (atDepth (r .progress .depth) p) (r .progress)
+drawn-due r p a g u = rw g at u
+
+pub drawn-room : (r : Turned) (n : ℕ) (a : Action) → r .course ≡ Draws a → RoomBy (r .course) n → roomForStep ≤ n
+drawn-room r n a g u = rw g at u
 
 module _ (s : Session) (st₀ piece out₀ : List ℕ) (valid : Valid (stateLent s st₀)) (p₀ : Progress) (e₀ : p₀ ≡ startOf s) where
   -- The state that is lent, in parts
   abbrev first : State
-  first = stateAt (s .budget) p₀ (s .bodies .cells) (s .bodies .places) (s .coding .firsts) (s .drawing .map) st₀
+  first = stateAt (s .budget) p₀ (s .bodies .cells) (s .bodies .places) (s .coding .firsts) (s .drawing) st₀
 
   first-lent : first ≡ stateLent s st₀
   first-lent =
@@ -45,22 +66,60 @@ module _ (s : Session) (st₀ piece out₀ : List ℕ) (valid : Valid (stateLent
       subst (λ (q : Progress). Kept first piece out₀ first (q .at) (q .written) out₀) (sym e₀)
       (kept-first first piece out₀ (subst Valid (sym first-lent) valid))
 
-  module _ (p : Progress) (cells places firsts map st out : List ℕ) (i : Kept first piece out₀ (stateAt (s .budget) p cells places firsts map st) (p .at) (p .written) out)
-      (r : Turned) (cells₁ places₁ firsts₁ map₁ st₁ out₁ : List ℕ)
-      (e : leftOf (s .budget) r cells₁ places₁ firsts₁ map₁ st₁ out₁ ≡ leaves (turn (length out - p .written) (s .budget - p .steps) (stateAt (s .budget) p cells places firsts map st) (drop (p .at) piece)) (p .at) (p .written) out)
+  -- A reading that has ended hands the whole over
+  hands-over : (a : Answer) (p : Progress) (cells places firsts : List ℕ) (d : Drawing) (st out : List ℕ)
+      → record { answer = a; state = answered a (stateAt (s .budget) p cells places firsts d st); consumed = p .at; written = p .written; output = out } ≡ handed (wholeReading first piece out₀) out₀
+      → (r : Fed) → r ≡ fedOf a p (sessionAfter a (s .budget) p cells places firsts d)
+      → handedOf r st out ≡ handed (reading (Room (length out₀)) (s .budget - s .steps) (stateLent s st₀) piece) out₀
+  hands-over a p cells places firsts d st out h r e =
+      rw e
+      (ap (λ (w : State). record { answer = a; state = w; consumed = p .at; written = p .written; output = out }) (ended-state a (s .budget) p cells places firsts d st)
+      ∙ h
+      ∙ ap (λ (w : State). handed (wholeReading w piece out₀) out₀) first-lent)
+
+  module _ (p : Progress) (cells places firsts : List ℕ) (d : Drawing) (st out : List ℕ) (i : Kept first piece out₀ (stateAt (s .budget) p cells places firsts d st) (p .at) (p .written) out)
+      (r : Turned) (cells₁ places₁ firsts₁ st₁ : List ℕ)
+      (e : (c : Drawing) (l : List ℕ) → leftOf (s .budget) (atDepth (r .progress .depth) p) r cells₁ places₁ firsts₁ c st₁ l ≡ leaves (turn (length out - p .written) (s .budget - p .steps) (stateAt (s .budget) p cells places firsts c st) (drop (p .at) piece)) (p .at) (p .written) l)
     where
+      abbrev before : State
+      before = stateAt (s .budget) p cells places firsts d st
+
+      next : (x : Left) → x ≡ leftOf (s .budget) (atDepth (r .progress .depth) p) r cells₁ places₁ firsts₁ d st₁ out → Next first piece out₀ before (p .at) (p .written) out (x .course) x
+      next x f = kept-next first piece out₀ before (p .at) (p .written) out x i (f ∙ e d out)
+
       pub loop-on : r .course ≡ GoesOn
-          → (Kept first piece out₀ (stateAt (s .budget) (r .progress) cells₁ places₁ firsts₁ map₁ st₁) (r .progress .at) (r .progress .written) out₁)
+          → (Kept first piece out₀ (stateAt (s .budget) (r .progress) cells₁ places₁ firsts₁ d st₁) (r .progress .at) (r .progress .written) out)
           × (r .progress .steps ≡ 1 + p .steps)
           × (p .steps < s .budget)
-      loop-on g =
-          rw g at (kept-next first piece out₀ (stateAt (s .budget) p cells places firsts map st) (p .at) (p .written) out (leftOf (s .budget) r cells₁ places₁ firsts₁ map₁ st₁ out₁) i e)
+      loop-on g = next (record { course = GoesOn; state = stateAt (s .budget) (r .progress) cells₁ places₁ firsts₁ d st₁; consumed = r .progress .at; written = r .progress .written; output = out }) (rw g)
 
-      pub loop-ends : (a : Answer) → r .course ≡ Ends a → (left : Session) → left ≡ sessionAfter a (s .budget) (r .progress) cells₁ places₁ firsts₁ map₁
-          → handedOf (record { answer = a; consumed = r .progress .at; written = r .progress .written; session = left }) st₁ out₁
-          ≡ handed (reading (Room (length out₀)) (s .budget - s .steps) (stateLent s st₀) piece) out₀
-      loop-ends a g left f =
-          ap (λ (w : State). record { answer = a; state = w; consumed = r .progress .at; written = r .progress .written; output = out₁ })
-          (ap (λ (z : Session). stateLent z st₁) f ∙ ended-state a (s .budget) (r .progress) cells₁ places₁ firsts₁ map₁ st₁)
-          ∙ rw g at (kept-next first piece out₀ (stateAt (s .budget) p cells places firsts map st) (p .at) (p .written) out (leftOf (s .budget) r cells₁ places₁ firsts₁ map₁ st₁ out₁) i e)
-          ∙ ap (λ (w : State). handed (wholeReading w piece out₀) out₀) first-lent
+      pub loop-ends : (a : Answer) → r .course ≡ Ends a → (x : Fed) → x ≡ fedOf a (r .progress) (sessionAfter a (s .budget) (r .progress) cells₁ places₁ firsts₁ d)
+          → handedOf x st₁ out ≡ handed (reading (Room (length out₀)) (s .budget - s .steps) (stateLent s st₀) piece) out₀
+      loop-ends a g x f =
+          hands-over a (r .progress) cells₁ places₁ firsts₁ d st₁ out
+          (next (record { course = Ends a; state = answered a (stateAt (s .budget) (r .progress) cells₁ places₁ firsts₁ d st₁); consumed = r .progress .at; written = r .progress .written; output = out }) (rw g)) x f
+
+      -- The turn's action drawn
+      module _ (a : Action) (g : r .course ≡ Draws a) (u : Due (atDepth (r .progress .depth) p) r) (m : Drawn) (map₁ out₁ : List ℕ) (f : carriedOf m map₁ out₁ ≡ carry (act a d) d (p .written) out)
+          (cells₂ places₂ : List ℕ) (h : bodiesOf (r .progress .depth) cells₂ places₂ ≡ readOnIf (m .refused) (r .progress .depth) (r .cursor) (bodiesOf (r .progress .depth) cells₁ places₁)) where
+        due : DueBy (Draws a) (atDepth (r .progress .depth) p) (r .progress)
+        due = drawn-due r p a g u
+
+        pub loop-draws : m .refused ≡ false → (q : Progress) → q ≡ writtenTo (m .at) (r .progress)
+            → (Kept first piece out₀ (stateAt (s .budget) q cells₂ places₂ firsts₁ (drawingOf (m .pen) (m .command) (m .look) map₁) st₁) (q .at) (q .written) out₁)
+            × (q .steps ≡ 1 + p .steps)
+            × (p .steps < s .budget)
+        loop-draws n q k =
+            rw k
+            (next (record { course = GoesOn; state = stateAt (s .budget) (writtenTo (m .at) (r .progress)) cells₂ places₂ firsts₁ (drawingOf (m .pen) (m .command) (m .look) map₁) st₁; consumed = r .progress .at; written = m .at; output = out₁ })
+            (rw g (draw-goes (s .budget) (atDepth (r .progress .depth) p) (r .progress) (due .0) cells₁ places₁ firsts₁ d st₁ out (r .cursor) a m map₁ out₁ f cells₂ places₂ h n)))
+
+        pub loop-refused : m .refused ≡ true → (pen : Pen) (command : Command) (look : Look) (map : List ℕ) → d ≡ drawingOf pen command look map
+            → (q : Progress) → q ≡ atDepth (r .progress .depth) p
+            → (x : Fed) → x ≡ fedOf (Refused TooManyVertices) q (sessionAfter (Refused TooManyVertices) (s .budget) q cells₂ places₂ firsts₁ (drawingOf pen command look map₁))
+            → handedOf x st₁ out₁ ≡ handed (reading (Room (length out₀)) (s .budget - s .steps) (stateLent s st₀) piece) out₀
+        loop-refused n pen command look map k q v x y =
+            hands-over (Refused TooManyVertices) (atDepth (r .progress .depth) p) cells₂ places₂ firsts₁ (drawingOf pen command look map₁) st₁ out₁
+            (next (record { course = Ends (Refused TooManyVertices); state = answered (Refused TooManyVertices) (stateAt (s .budget) (atDepth (r .progress .depth) p) cells₂ places₂ firsts₁ (drawingOf pen command look map₁) st₁); consumed = p .at; written = p .written; output = out₁ })
+            (rw g (draw-refused (s .budget) (atDepth (r .progress .depth) p) (r .progress) (due .0) cells₁ places₁ firsts₁ d st₁ out (r .cursor) a m map₁ out₁ f cells₂ places₂ h pen command look map k n)))
+            x (rw v at y)

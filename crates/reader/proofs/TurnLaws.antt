@@ -3,33 +3,35 @@ use Prim.Native.Nat.{ℕ, zero, suc, _+_, _-_, _≤_, _<_}
 use native.Mathlib.Nat.{add-zero}
 use native.Mathlib.Numerals.{add-one, sub-one}
 use native.Mathlib.Omega.{arith}
-use mathlib.Core.Path.{_≡_, refl, ap, _∙_}
+use mathlib.Core.Path.{_≡_, refl, sym, ap, _∙_, subst}
 use mathlib.Core.Bool.{Bool, true, false}
 use mathlib.Core.List.{List, [], _∷_}
 use lib.ListN.{length, drop, getD, drop-of-length-le}
 use lib.Seq.{drop-cons, getD-drop}
 use lib.Dec.{ltb, leb}
 use borrow.Author.Tests.{lt-ltb, le-ltb, leb-true, leb-false, eqb-true}
+use Rattle.rules.specs.declared.Action.{Action}
 use Rattle.rules.specs.declared.Answer.the-variants.{Done, Full, Refused}
 use Rattle.rules.specs.declared.Bodies.{Bodies}
 use Rattle.rules.specs.declared.Cursor.{Cursor}
+use Rattle.rules.specs.declared.Drawing.{Drawing}
 use Rattle.rules.specs.declared.Read.{Read}
 use Rattle.rules.specs.declared.Read.the-variants.{Byte, BadCell}
 use Rattle.rules.specs.declared.Refusal.the-variants.{BudgetUsed, OutOfRange}
 use Rattle.rules.specs.Store.{storeSize}
 use Rattle.rules.specs.Bodies.{bodyAt, withBody, readBody, depthLeft, unspent, mostDepth}
-use Rattle.rules.specs.Ranges.{placesFit, bodiesFit, waitingFits, drawingFits}
+use Rattle.rules.specs.Ranges.{placesFit, bodiesFit, waitingFits}
 use Rattle.rules.specs.Step.{State, withBodies, removeSpent, Sought, NothingLeft, Spoilt, Found, FromBody, fromBody, seekAt, seek}
 use Rattle.rules.specs.Reading.{roomForStep, consumedBy}
 use Rattle.rules.proofs.Bools.{true-false, false-true, and-left}
 use Rattle.rules.proofs.Steps.{Valid}
-use Rattle.figures.specs.Carried.{drawingOf}
 use Rattle.bodies.specs.Stack.{bodiesOf}
-use Rattle.reader.specs.declared.step.Course.the-variants.{Ends as Ends·course}
+use Rattle.reader.specs.declared.step.Course.{Course}
+use Rattle.reader.specs.declared.step.Course.the-variants.{GoesOn, Ends as Ends·course, Draws}
 use Rattle.reader.specs.declared.step.Progress.{Progress}
 use Rattle.reader.specs.declared.step.Turned.{Turned}
 use Rattle.reader.specs.Turn.{Turn, Ends, stopped, onSought, turn, nothingLeft, nextByte, sourceAt, advanced, interpreted, Left, leaves}
-use Rattle.reader.specs.View.{stateAt, atDepth, leftOf, Ready}
+use Rattle.reader.specs.View.{stateAt, atDepth, leftBy, leftOf, DueBy, Due, Ready}
 
 -- Whether something is left: of a body, or of the piece
 
@@ -105,77 +107,107 @@ pub valid-depth : {w : State} → Valid w → w .session .bodies .depth ≤ most
 unfolding bodiesFit
 valid-depth {w} v = let y = w .session .bodies in leb-true (y .depth) mostDepth (and-left (leb (y .depth) mostDepth) (placesFit (y .places)) (v .bodies))
 
+abbrev nowhere : Cursor
+nowhere = record { cell = 0; place = 0 }
+
+-- Where an action is due, the progress before it has the depth of the one after it
+module _ (p : Progress) (d : ℕ) (q : Progress) (f : q ≡ atDepth d p) (r : Turned) (u : Due q r) where
+  kept-depth : (a : Action) → DueBy (Draws a) q (r .progress) → atDepth (r .progress .depth) p ≡ q
+  kept-depth a v = ap (λ (n : ℕ). atDepth n p) (ap (λ (z : Progress). z .depth) (v .0) ∙ ap (λ (z : Progress). z .depth) f) ∙ sym f
+
+  pub due-from : Due (atDepth (r .progress .depth) p) r
+  due-from = by (r .course) u
+    where
+      by : (c : Course) → DueBy c q (r .progress) → DueBy c (atDepth (r .progress .depth) p) (r .progress)
+      by GoesOn v = tt
+      by (Ends·course a) v = tt
+      by (Draws a) v = subst (λ (z : Progress). DueBy (Draws a) z (r .progress)) (sym (kept-depth a v)) v
+
+left-due : (budget : ℕ) (p : Progress) (d : ℕ) (q : Progress) → q ≡ atDepth d p → (r : Turned) → Due q r
+    → (cells places firsts : List ℕ) (drawing : Drawing) (st out : List ℕ)
+    → leftOf budget (atDepth (r .progress .depth) p) r cells places firsts drawing st out ≡ leftOf budget q r cells places firsts drawing st out
+left-due budget p d q f r u cells places firsts drawing st out = by (r .course) u
+  where
+    by : (c : Course) → DueBy c q (r .progress)
+        → leftBy c budget (atDepth (r .progress .depth) p) (r .progress) (r .cursor) cells places firsts drawing st out
+        ≡ leftBy c budget q (r .progress) (r .cursor) cells places firsts drawing st out
+    by GoesOn v = refl
+    by (Ends·course a) v = refl
+    by (Draws a) v =
+        ap (λ (z : Progress). leftBy (Draws a) budget z (r .progress) (r .cursor) cells places firsts drawing st out)
+        (kept-depth p d q f r u a v)
+
 -- A turn from p, with the depth d once spent bodies are removed
-module _ (budget : ℕ) (p : Progress) (cells places firsts map st piece out : List ℕ) (d : ℕ) (e : d ≡ depthLeft st (bodiesOf (p .depth) cells places) (p .depth)) (q : Progress) (f : q ≡ atDepth d p) where
+module _ (budget : ℕ) (p : Progress) (cells places firsts : List ℕ) (drawing : Drawing) (st piece out : List ℕ) (free : ℕ) (d : ℕ) (e : d ≡ depthLeft st (bodiesOf (p .depth) cells places) (p .depth)) (q : Progress) (f : q ≡ atDepth d p) where
   abbrev entry : State
-  entry = stateAt budget p cells places firsts map st
+  entry = stateAt budget p cells places firsts drawing st
 
   abbrev removed : State
-  removed = stateAt budget q cells places firsts map st
+  removed = stateAt budget q cells places firsts drawing st
 
   abbrev rest : List ℕ
   rest = drop (p .at) piece
 
-  abbrev room : ℕ
-  room = length out - p .written
-
   abbrev Answers : Left → Type 0
-  Answers l = l ≡ leaves (turn room (budget - p .steps) entry rest) (p .at) (p .written) out
+  Answers l = l ≡ leaves (turn free (budget - p .steps) entry rest) (p .at) (p .written) out
 
   spent-removed : removed ≡ removeSpent entry
   unfolding removeSpent unspent
   spent-removed = rw (f, e)
 
-  comes : (t : Turn) (l : Left) → onSought (ltb room roomForStep) (budget - p .steps) (seek removed rest) removed ≡ t → l ≡ leaves t (p .at) (p .written) out → Answers l
+  comes : (t : Turn) (l : Left) → onSought (ltb free roomForStep) (budget - p .steps) (seek removed rest) removed ≡ t → l ≡ leaves t (p .at) (p .written) out → Answers l
   unfolding turn
   comes t l g h = rw (← spent-removed, g) h
 
-  pub turn-done : nothingLeft d rest ≡ true → (r : Turned) → r ≡ record { course = Ends·course Done; progress = q }
-      → Answers (leftOf budget r cells places firsts map st out)
+  pub turn-done : nothingLeft d rest ≡ true → (r : Turned) → r ≡ record { course = Ends·course Done; progress = q; cursor = nowhere }
+      → Answers (leftOf budget (atDepth (r .progress .depth) p) r cells places firsts drawing st out)
   unfolding seek onSought leaves
   turn-done h r g = comes (Ends Done removed) _ (rw (none-sought (q .depth) removed rest (rw f h))) (rw (g, f))
 
   module _ (h : nothingLeft d rest ≡ false) where
     found : seek removed rest ≡ soughtBy d (nextByte d st (bodiesOf d cells places) rest) removed rest
     unfolding seek
-    found = rw f (byte-sought d (stateAt budget (atDepth d p) cells places firsts map st) rest refl h)
+    found = rw f (byte-sought d (stateAt budget (atDepth d p) cells places firsts drawing st) rest refl h)
 
-    pub turn-full : length out - q .written < roomForStep → (r : Turned) → r ≡ record { course = Ends·course Full; progress = q }
-        → Answers (leftOf budget r cells places firsts map st out)
+    pub turn-full : free < roomForStep → (r : Turned) → r ≡ record { course = Ends·course Full; progress = q; cursor = nowhere }
+        → Answers (leftOf budget (atDepth (r .progress .depth) p) r cells places firsts drawing st out)
     unfolding leaves
     turn-full k r g =
-        let less : room < roomForStep = rw f at k in
-        comes (Ends Full removed) _ (rw (found, lt-ltb room roomForStep less) (full-sought d (budget - p .steps) (nextByte d st (bodiesOf d cells places) rest) removed rest)) (rw (g, f))
+        comes (Ends Full removed) _ (rw (found, lt-ltb free roomForStep k) (full-sought d (budget - p .steps) (nextByte d st (bodiesOf d cells places) rest) removed rest)) (rw (g, f))
 
-    module _ (k : roomForStep ≤ length out - q .written) where
-      free : ltb room roomForStep ≡ false
-      free = le-ltb room roomForStep (rw f at k)
+    module _ (k : roomForStep ≤ free) where
+      enough : ltb free roomForStep ≡ false
+      enough = le-ltb free roomForStep k
 
-      pub turn-spent : budget ≤ q .steps → (r : Turned) → r ≡ record { course = Ends·course (Refused BudgetUsed); progress = q }
-          → Answers (leftOf budget r cells places firsts map st out)
+      pub turn-spent : budget ≤ q .steps → (r : Turned) → r ≡ record { course = Ends·course (Refused BudgetUsed); progress = q; cursor = nowhere }
+          → Answers (leftOf budget (atDepth (r .progress .depth) p) r cells places firsts drawing st out)
       unfolding leaves
       turn-spent n r g =
           let most : budget ≤ p .steps = rw f at n in
           let none : budget - p .steps ≡ 0 = omega arith in
-          comes (stopped BudgetUsed removed) _ (rw (found, free, none) (spent-sought d (nextByte d st (bodiesOf d cells places) rest) removed rest)) (rw (g, f))
+          comes (stopped BudgetUsed removed) _ (rw (found, enough, none) (spent-sought d (nextByte d st (bodiesOf d cells places) rest) removed rest)) (rw (g, f))
 
       module _ (n : q .steps < budget) (x : Read) (i : x ≡ nextByte d st (bodiesOf d cells places) rest) where
         some-left : budget - p .steps ≡ suc (budget - (p .steps + 1))
         some-left = let less : p .steps < budget = rw f at n in omega arith
 
-        pub turn-bad : x ≡ BadCell → (r : Turned) → r ≡ record { course = Ends·course (Refused OutOfRange); progress = q }
-            → Answers (leftOf budget r cells places firsts map st out)
+        pub turn-bad : x ≡ BadCell → (r : Turned) → r ≡ record { course = Ends·course (Refused OutOfRange); progress = q; cursor = nowhere }
+            → Answers (leftOf budget (atDepth (r .progress .depth) p) r cells places firsts drawing st out)
         unfolding onSought leaves
-        turn-bad j r g = comes (stopped OutOfRange removed) _ (rw (found, ← i, j, free, some-left)) (rw (g, f))
+        turn-bad j r g = comes (stopped OutOfRange removed) _ (rw (found, ← i, j, enough, some-left)) (rw (g, f))
 
-        pub turn-byte : {b : ℕ} {y : Cursor} → x ≡ Byte b y → (l : Left) → l ≡ leaves (interpreted (q .depth) y b removed) (q .at) (q .written) out → Answers l
+        pub turn-byte : {b : ℕ} {y : Cursor} → x ≡ Byte b y → (r : Turned) → Due q r → (cells₁ places₁ firsts₁ st₁ : List ℕ)
+            → leftOf budget q r cells₁ places₁ firsts₁ drawing st₁ out ≡ leaves (interpreted (q .depth) y b removed) (q .at) (q .written) out
+            → Answers (leftOf budget (atDepth (r .progress .depth) p) r cells₁ places₁ firsts₁ drawing st₁ out)
         unfolding onSought interpreted
-        turn-byte {b} {y} j l g = comes (interpreted d y b removed) l (rw (found, ← i, j, free, some-left)) (g ∙ rw f)
+        turn-byte {b} {y} j r u cells₁ places₁ firsts₁ st₁ g =
+            comes (interpreted d y b removed) _ (rw (found, ← i, j, enough, some-left))
+            (left-due budget p d q f r u cells₁ places₁ firsts₁ drawing st₁ out ∙ g ∙ rw f)
 
-  -- What is asked of a byte's interpretation
-  pub asked-ready : (after : ℕ) → Valid entry → d ≤ p .depth → q .steps < budget → budget ≤ 4294967295 → after ≡ consumedBy (sourceAt d) (p .at)
-      → (Ready q after) × (waitingFits (q .waiting) ≡ true) × (drawingFits (drawingOf (q .pen) (q .command) (q .look) map) ≡ true)
-  asked-ready after v h n m a =
-      let k = valid-depth v in
-      let less : p .steps < budget = rw f at n in
-      rw f (record { depth = omega arith; steps = omega arith; after = a }, v .waiting, v .drawing)
+-- What is asked of a byte's interpretation
+pub asked-ready : (budget : ℕ) (p : Progress) (d : ℕ) (q : Progress) → q ≡ atDepth d p → (after : ℕ) → p .depth ≤ 8 → d ≤ p .depth
+    → q .steps < budget → budget ≤ 4294967295 → after ≡ consumedBy (sourceAt d) (p .at) → waitingFits (p .waiting) ≡ true
+    → (Ready q after) × (waitingFits (q .waiting) ≡ true)
+asked-ready budget p d q f after v h n m a u =
+    let less : p .steps < budget = rw f at n in
+    rw f (record { depth = omega arith; steps = omega arith; after = a }, u)

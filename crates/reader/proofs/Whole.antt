@@ -17,7 +17,7 @@ use Rattle.rules.proofs.Steps.{Valid}
 use Rattle.records.specs.Bytes.{overwrite}
 use Rattle.records.proofs.Writes.{overwrite-length}
 use Rattle.reader.specs.declared.step.Course.{Course}
-use Rattle.reader.specs.declared.step.Course.the-variants.{GoesOn, Ends as Ends·course}
+use Rattle.reader.specs.declared.step.Course.the-variants.{GoesOn, Ends as Ends·course, Draws}
 use Rattle.reader.specs.Turn.{Turn, Ends, Steps, turn, Left, leaves}
 use Rattle.reader.proofs.Turns.{Advance, Follows, turn-follows}
 
@@ -114,6 +114,7 @@ module _ (w₀ : State) (piece out₀ : List ℕ) (w : State) (at written : ℕ)
       × (w .session .steps < w .session .budget)
   Next (Ends·course a) x =
       record { answer = a; state = x .state; consumed = x .consumed; written = x .written; output = x .output } ≡ handed (wholeReading w₀ piece out₀) out₀
+  Next (Draws a) x = Unit
 
   turn-next : (t : Turn) → Kept w₀ piece out₀ w at written out → Follows (length out - written) (budgetLeft w) w (drop at piece) t
       → Next (leaves t at written out .course) (leaves t at written out)

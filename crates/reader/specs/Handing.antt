@@ -1,10 +1,12 @@
 -- What feed is lent and hands over, as the rules have it
 use Prim.Native.Nat.{ℕ}
 use mathlib.Core.List.{List}
+use Rattle.rules.specs.declared.Answer.{Answer}
 use Rattle.rules.specs.declared.Session.{Session}
 use Rattle.rules.specs.Step.{State}
 use Rattle.rules.specs.Calls.{Handed}
 use Rattle.reader.specs.declared.feed.Fed.{Fed}
+use Rattle.reader.specs.declared.step.Progress.{Progress}
 
 abbrev pub stateLent : Session → List ℕ → State
 stateLent s st = record { session = s; store = st }
@@ -19,3 +21,6 @@ handedOf r st out =
       written = r .written;
       output = out;
     }
+
+abbrev pub fedOf : Answer → Progress → Session → Fed
+fedOf a p s = record { answer = a; consumed = p .at; written = p .written; session = s }

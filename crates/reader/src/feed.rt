@@ -1,12 +1,18 @@
 // Feed: a reading of a piece, turn by turn, as far as the output has room.
 use crate::step::Course;
 use crate::step::Progress;
+use crate::step::draw;
+use crate::turn::at_depth;
 use crate::turn::turn;
 use crate::verdict::verdict;
 use rules::Answer;
 use rules::Bodies;
 use rules::Coding;
+use rules::Command;
 use rules::Drawing;
+use rules::Look;
+use rules::Pen;
+use rules::Refusal;
 use rules::Session;
 use rules::Status;
 use rules::Verdict;
@@ -16,8 +22,9 @@ ghost use lib.ListN.{length};
 ghost use Rattle.rules.specs.Reading.{Room, reading};
 ghost use Rattle.rules.specs.Calls.{handed, feed};
 ghost use Rattle.rules.proofs.Steps.{Valid};
-ghost use Rattle.reader.specs.View.{startOf, statusAfter, sessionAfter};
-ghost use Rattle.reader.specs.Handing.{stateLent, handedOf};
+ghost use Rattle.figures.specs.Carried.{drawingOf};
+ghost use Rattle.reader.specs.View.{startOf, writtenTo, statusAfter, sessionAfter};
+ghost use Rattle.reader.specs.Handing.{stateLent, handedOf, fedOf};
 
 pub struct Fed {
     pub answer: Answer,
@@ -31,12 +38,8 @@ fn start(session: Session) -> Progress
 {
     let bodies = session.bodies;
     let coding = session.coding;
-    let drawing = session.drawing;
     let sets = coding.sets;
     let waiting = coding.waiting;
-    let pen = drawing.pen;
-    let command = drawing.command;
-    let look = drawing.look;
     Progress {
         at: 0,
         written: 0,
@@ -44,9 +47,6 @@ fn start(session: Session) -> Progress
         depth: bodies.depth,
         sets,
         waiting,
-        pen,
-        command,
-        look,
     }
 }
 
@@ -60,25 +60,25 @@ fn status_after(answer: Answer) -> Status
     }
 }
 
-// The session that a reading leaves.
+// What a reading that has ended hands over.
 fn finish(
     answer: Answer,
     budget: u32,
     progress: Progress,
+    pen: Pen,
+    command: Command,
+    look: Look,
     cells: [u8; 8],
     places: [u8; 8],
     firsts: [u8; 96],
     map: [u8; 48],
-) -> Session
-    ensures { λ r. ⌜ r ≡ sessionAfter answer budget progress cells places firsts map ⌝ }
+) -> Fed
+    ensures { λ r. ⌜ r ≡ fedOf answer progress (sessionAfter answer budget progress cells places firsts (drawingOf pen command look map)) ⌝ }
 {
     let sets = progress.sets;
     let waiting = progress.waiting;
-    let pen = progress.pen;
-    let command = progress.command;
-    let look = progress.look;
     let status = status_after(answer);
-    Session {
+    let session = Session {
         budget,
         steps: progress.steps,
         status,
@@ -98,7 +98,21 @@ fn finish(
             look,
             map,
         },
+    };
+    Fed {
+        answer,
+        consumed: progress.at,
+        written: progress.written,
+        session,
     }
+}
+
+fn with_written(progress: Progress, written: usize) -> Progress
+    ensures { λ r. ⌜ r ≡ writtenTo written progress ⌝ }
+{
+    let mut progress = progress;
+    progress.written = written;
+    progress
 }
 
 // The turns of a reading, until one ends it.
@@ -114,29 +128,82 @@ fn read(session: Session, store: &mut [u8], piece: &[u8], out: &mut [u8]) -> Fed
     let mut places = bodies.places;
     let mut firsts = coding.firsts;
     let mut map = drawing.map;
+    let mut pen = drawing.pen;
+    let mut command = drawing.command;
+    let mut look = drawing.look;
     let mut progress = start(session);
     loop {
+        let free = out.len() - progress.written;
         let turned = turn(
             progress,
             budget,
+            free,
             &mut cells,
             &mut places,
             &mut firsts,
-            &mut map,
             store,
             piece,
-            out,
         );
-        progress = turned.progress;
         let course = turned.course;
-        if let Course::Ends(answer) = course {
-            let session = finish(answer, budget, progress, cells, places, firsts, map);
-            return Fed {
-                answer,
-                consumed: progress.at,
-                written: progress.written,
-                session,
-            };
+        let next = turned.progress;
+        match course {
+            Course::Ends(answer) => {
+                return finish(
+                    answer,
+                    budget,
+                    next,
+                    pen,
+                    command,
+                    look,
+                    cells,
+                    places,
+                    firsts,
+                    map,
+                );
+            }
+            Course::GoesOn => {
+                progress = next;
+                continue;
+            }
+            Course::Draws(action) => {
+                let cursor = turned.cursor;
+                let depth = next.depth;
+                let at = progress.written;
+                let drawn = draw(
+                    action,
+                    depth,
+                    cursor,
+                    pen,
+                    command,
+                    look,
+                    &mut cells,
+                    &mut places,
+                    &mut map,
+                    out,
+                    at,
+                );
+                if drawn.refused {
+                    let answer = Answer::Refused(Refusal::TooManyVertices);
+                    let progress = at_depth(progress, depth);
+                    return finish(
+                        answer,
+                        budget,
+                        progress,
+                        pen,
+                        command,
+                        look,
+                        cells,
+                        places,
+                        firsts,
+                        map,
+                    );
+                }
+                pen = drawn.pen;
+                command = drawn.command;
+                look = drawn.look;
+                progress = with_written(next, drawn.at);
+                continue;
+            }
         }
     }
 }

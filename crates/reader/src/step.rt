@@ -5,6 +5,7 @@ use coding::react;
 use coding::reactions::Effect;
 use coding::reactions::Reacted;
 use drawing::act;
+use figures::Drawn;
 use macros::names::first_of;
 use rules::Action;
 use rules::Answer;
@@ -21,17 +22,18 @@ ghost use mathlib.Core.Bool.{true};
 ghost use mathlib.Core.List.{List};
 ghost use Prim.Native.Nat.{ℕ, _+_, _≤_, _<_};
 ghost use lib.ListN.{length};
+ghost use Rattle.rules.specs.declared.Drawing.{Drawing};
 ghost use Rattle.rules.specs.Drawing.{act};
 ghost use Rattle.rules.specs.Ranges.{waitingFits, drawingFits};
 ghost use Rattle.rules.specs.Step.{onOutcome, call, opensInside};
 ghost use Rattle.macros.specs.Lent.{Sized, IsName};
-ghost use Rattle.figures.specs.Carried.{drawingOf};
+ghost use Rattle.figures.specs.Carried.{carryOut, drawingOf, carriedOf};
 ghost use Rattle.bodies.specs.Stack.{bodiesOf};
 ghost use Rattle.coding.specs.View.{codingOf};
 ghost use Rattle.reader.specs.Turn.{sourceAt, readOn, stepBy, interpreted, leaves};
-ghost use Rattle.reader.specs.View.{stateAt, goesTo, leftOf, Ready};
+ghost use Rattle.reader.specs.View.{stateAt, stepsTo, leftOf, Due, Ready, readOnIf};
 
-// Where a reading stands between two steps. The arrays of its state are lent beside it.
+// Where a reading stands between two steps. The drawing state and the arrays of the state are lent beside it.
 pub struct Progress {
     pub at: usize,
     pub written: usize,
@@ -39,9 +41,6 @@ pub struct Progress {
     pub depth: u8,
     pub sets: Sets,
     pub waiting: Waiting,
-    pub pen: Pen,
-    pub command: Command,
-    pub look: Look,
 }
 
 // Where reading goes on once a byte is read: in the piece, and in the innermost body.
@@ -50,54 +49,46 @@ pub struct Onward {
     pub cursor: Cursor,
 }
 
+// A step was accepted, the reading ends, or the step is accepted if its action can be drawn.
 pub enum Course {
     GoesOn,
     Ends(Answer),
+    Draws(Action),
 }
 
+// The cursor is where the innermost body goes on once the action is drawn.
 pub struct Turned {
     pub course: Course,
     pub progress: Progress,
+    pub cursor: Cursor,
 }
 
+const NOWHERE: Cursor = Cursor { cell: 0, place: 0 };
+
 pub fn ends(progress: Progress, answer: Answer) -> Turned
-    ensures { λ r. ⌜ r ≡ record { course = Course.Ends answer; progress = progress } ⌝ }
+    ensures { λ r. ⌜ r ≡ record { course = Course.Ends answer; progress = progress; cursor = record { cell = 0; place = 0 } } ⌝ }
 {
     Turned {
         course: Course::Ends(answer),
         progress,
+        cursor: NOWHERE,
     }
 }
 
-// A step is accepted, and counts.
-fn goes_on(
-    at: usize,
-    written: usize,
-    steps: u32,
-    depth: u8,
-    reacted: Reacted,
-    pen: Pen,
-    command: Command,
-    look: Look,
-) -> Turned
-    requires { ⌜ steps < 4294967295 ⌝ }
-    ensures { λ r. ⌜ r ≡ goesTo at written (steps + 1) depth (reacted .sets) (reacted .waiting) pen command look ⌝ }
+// How an accepted step leaves the progress: it counts.
+fn counted(progress: Progress, at: usize, depth: u8, reacted: Reacted) -> Progress
+    requires { ⌜ progress .steps < 4294967295 ⌝ }
+    ensures { λ r. ⌜ r ≡ stepsTo at depth (reacted .sets) (reacted .waiting) progress ⌝ }
 {
     let sets = reacted.sets;
     let waiting = reacted.waiting;
-    Turned {
-        course: Course::GoesOn,
-        progress: Progress {
-            at,
-            written,
-            steps: steps + 1,
-            depth,
-            sets,
-            waiting,
-            pen,
-            command,
-            look,
-        },
+    Progress {
+        at,
+        written: progress.written,
+        steps: progress.steps + 1,
+        depth,
+        sets,
+        waiting,
     }
 }
 
@@ -112,7 +103,7 @@ fn opens_inside(depth: u8, waiting: Waiting, byte: u8) -> bool
 }
 
 // The innermost body goes on at the cursor. Without a body there is none to keep.
-fn read_on(cells: &mut [u8; 8], places: &mut [u8; 8], depth: u8, cursor: Cursor)
+pub fn read_on(cells: &mut [u8; 8], places: &mut [u8; 8], depth: u8, cursor: Cursor)
     requires { ⌜ depth ≤ 8 ⌝ }
     ensures { λ _. ⌜ bodiesOf depth (now (cells .exit)) (now (places .exit)) ≡ readOn depth cursor (bodiesOf depth (now (cells .entry)) (now (places .entry))) ⌝ }
 {
@@ -132,7 +123,8 @@ fn call(
     firsts: &[u8; 96],
 ) -> Turned
     requires { ⌜ (Ready progress (onward .at)) × (IsName name) ⌝ }
-    ensures { λ r. ⌜ ((budget : ℕ) (map st out : List ℕ) → let w = stateAt budget progress (now (cells .entry)) (now (places .entry)) (now (firsts .entry)) map st in leftOf budget r (now (cells .exit)) (now (places .exit)) (now (firsts .entry)) map st out ≡ leaves (stepBy (progress .depth) (onward .cursor) (call name (codingOf (reacted .sets) (reacted .waiting) (now (firsts .entry)))) w) (progress .at) (progress .written) out) ⌝ }
+    ensures left { λ r. ⌜ ((budget : ℕ) (d : Drawing) (st out : List ℕ) → leftOf budget progress r (now (cells .exit)) (now (places .exit)) (now (firsts .entry)) d st out ≡ leaves (stepBy (progress .depth) (onward .cursor) (call name (codingOf (reacted .sets) (reacted .waiting) (now (firsts .entry)))) (stateAt budget progress (now (cells .entry)) (now (places .entry)) (now (firsts .entry)) d st)) (progress .at) (progress .written) out) ⌝ }
+    ensures due { λ r. ⌜ Due progress r ⌝ }
 {
     let depth = progress.depth;
     if MOST_DEPTH <= depth {
@@ -142,60 +134,68 @@ fn call(
     read_on(cells, places, depth, cursor);
     let cell = first_of(firsts, name);
     set_body(cells, places, depth, Cursor { cell, place: 0 });
-    let pen = progress.pen;
-    let command = progress.command;
-    let look = progress.look;
-    goes_on(
-        onward.at,
-        progress.written,
-        progress.steps,
-        depth + 1,
-        reacted,
-        pen,
-        command,
-        look,
-    )
+    Turned {
+        course: Course::GoesOn,
+        progress: counted(progress, onward.at, depth + 1, reacted),
+        cursor: NOWHERE,
+    }
 }
 
-fn draw(
+// Nothing is asked of drawing.
+fn idle(
+    progress: Progress,
+    onward: Onward,
+    reacted: Reacted,
+    cells: &mut [u8; 8],
+    places: &mut [u8; 8],
+) -> Turned
+    requires { ⌜ Ready progress (onward .at) ⌝ }
+    ensures left { λ r. ⌜ ((budget : ℕ) (d : Drawing) (firsts st out : List ℕ) → leftOf budget progress r (now (cells .exit)) (now (places .exit)) firsts d st out ≡ leaves (stepBy (progress .depth) (onward .cursor) (onOutcome (act Action.Idle d) (codingOf (reacted .sets) (reacted .waiting) firsts) st) (stateAt budget progress (now (cells .entry)) (now (places .entry)) firsts d st)) (progress .at) (progress .written) out) ⌝ }
+    ensures due { λ r. ⌜ Due progress r ⌝ }
+{
+    let depth = progress.depth;
+    let cursor = onward.cursor;
+    read_on(cells, places, depth, cursor);
+    Turned {
+        course: Course::GoesOn,
+        progress: counted(progress, onward.at, depth, reacted),
+        cursor: NOWHERE,
+    }
+}
+
+// The body is read on once the action is drawn.
+fn draws(progress: Progress, onward: Onward, action: Action, reacted: Reacted) -> Turned
+    requires { ⌜ Ready progress (onward .at) ⌝ }
+    ensures left { λ r. ⌜ ((budget : ℕ) (cells places firsts : List ℕ) (d : Drawing) (st out : List ℕ) → leftOf budget progress r cells places firsts d st out ≡ leaves (stepBy (progress .depth) (onward .cursor) (onOutcome (act action d) (codingOf (reacted .sets) (reacted .waiting) firsts) st) (stateAt budget progress cells places firsts d st)) (progress .at) (progress .written) out) ⌝ }
+    ensures due { λ r. ⌜ Due progress r ⌝ }
+{
+    let cursor = onward.cursor;
+    Turned {
+        course: Course::Draws(action),
+        progress: counted(progress, onward.at, progress.depth, reacted),
+        cursor,
+    }
+}
+
+fn ask(
     progress: Progress,
     onward: Onward,
     action: Action,
     reacted: Reacted,
     cells: &mut [u8; 8],
     places: &mut [u8; 8],
-    map: &mut [u8; 48],
-    out: &mut [u8],
 ) -> Turned
-    requires { ⌜ (Ready progress (onward .at)) × (drawingFits (drawingOf (progress .pen) (progress .command) (progress .look) (now map)) ≡ true) × (progress .written + 120 ≤ length (now out)) ⌝ }
-    ensures { λ r. ⌜ ((budget : ℕ) (firsts st : List ℕ) → let w = stateAt budget progress (now (cells .entry)) (now (places .entry)) firsts (now (map .entry)) st in leftOf budget r (now (cells .exit)) (now (places .exit)) firsts (now (map .exit)) st (now (out .exit)) ≡ leaves (stepBy (progress .depth) (onward .cursor) (onOutcome (act action (w .session .drawing)) (codingOf (reacted .sets) (reacted .waiting) firsts) st) w) (progress .at) (progress .written) (now (out .entry))) ⌝ }
+    requires { ⌜ Ready progress (onward .at) ⌝ }
+    ensures left { λ r. ⌜ ((budget : ℕ) (d : Drawing) (firsts st out : List ℕ) → leftOf budget progress r (now (cells .exit)) (now (places .exit)) firsts d st out ≡ leaves (stepBy (progress .depth) (onward .cursor) (onOutcome (act action d) (codingOf (reacted .sets) (reacted .waiting) firsts) st) (stateAt budget progress (now (cells .entry)) (now (places .entry)) firsts d st)) (progress .at) (progress .written) out) ⌝ }
+    ensures due { λ r. ⌜ Due progress r ⌝ }
 {
-    let pen = progress.pen;
-    let command = progress.command;
-    let look = progress.look;
-    let drawn = act(action, pen, command, look, map, out, progress.written);
-    if drawn.refused {
-        return ends(progress, Answer::Refused(Refusal::TooManyVertices));
+    match action {
+        Action::Idle => idle(progress, onward, reacted, cells, places),
+        _ => draws(progress, onward, action, reacted),
     }
-    let depth = progress.depth;
-    let cursor = onward.cursor;
-    read_on(cells, places, depth, cursor);
-    let pen = drawn.pen;
-    let command = drawn.command;
-    let look = drawn.look;
-    goes_on(
-        onward.at,
-        drawn.at,
-        progress.steps,
-        depth,
-        reacted,
-        pen,
-        command,
-        look,
-    )
 }
 
-// Interprets a byte. Only a definition writes to the store, and its action is never refused.
+// Interprets a byte. Only a definition writes to the store, and it asks nothing of drawing.
 pub fn interpret(
     progress: Progress,
     onward: Onward,
@@ -203,12 +203,11 @@ pub fn interpret(
     cells: &mut [u8; 8],
     places: &mut [u8; 8],
     firsts: &mut [u8; 96],
-    map: &mut [u8; 48],
     store: &mut [u8],
-    out: &mut [u8],
 ) -> Turned
-    requires { ⌜ (Ready progress (onward .at)) × (Sized (now store)) × (waitingFits (progress .waiting) ≡ true) × (drawingFits (drawingOf (progress .pen) (progress .command) (progress .look) (now map)) ≡ true) × (progress .written + 120 ≤ length (now out)) ⌝ }
-    ensures { λ r. ⌜ ((budget : ℕ) → leftOf budget r (now (cells .exit)) (now (places .exit)) (now (firsts .exit)) (now (map .exit)) (now (store .exit)) (now (out .exit)) ≡ leaves (interpreted (progress .depth) (onward .cursor) byte (stateAt budget progress (now (cells .entry)) (now (places .entry)) (now (firsts .entry)) (now (map .entry)) (now (store .entry)))) (progress .at) (progress .written) (now (out .entry))) ⌝ }
+    requires { ⌜ (Ready progress (onward .at)) × (Sized (now store)) × (waitingFits (progress .waiting) ≡ true) ⌝ }
+    ensures left { λ r. ⌜ ((budget : ℕ) (d : Drawing) (out : List ℕ) → leftOf budget progress r (now (cells .exit)) (now (places .exit)) (now (firsts .exit)) d (now (store .exit)) out ≡ leaves (interpreted (progress .depth) (onward .cursor) byte (stateAt budget progress (now (cells .entry)) (now (places .entry)) (now (firsts .entry)) d (now (store .entry)))) (progress .at) (progress .written) out) ⌝ }
+    ensures due { λ r. ⌜ Due progress r ⌝ }
 {
     let sets = progress.sets;
     let waiting = progress.waiting;
@@ -220,6 +219,32 @@ pub fn interpret(
     match effect {
         Effect::Refuses(refusal) => ends(progress, Answer::Refused(refusal)),
         Effect::Calls(name) => call(progress, onward, name, reacted, cells, places, firsts),
-        Effect::Acts(action) => draw(progress, onward, action, reacted, cells, places, map, out),
+        Effect::Acts(action) => ask(progress, onward, action, reacted, cells, places),
     }
+}
+
+// Draws the action of a turn, and reads its body on where drawing accepts it.
+pub fn draw(
+    action: Action,
+    depth: u8,
+    cursor: Cursor,
+    pen: Pen,
+    command: Command,
+    look: Look,
+    cells: &mut [u8; 8],
+    places: &mut [u8; 8],
+    map: &mut [u8; 48],
+    out: &mut [u8],
+    at: usize,
+) -> Drawn
+    requires { ⌜ (depth ≤ 8) × (drawingFits (drawingOf pen command look (now map)) ≡ true) × (at + 120 ≤ length (now out)) ⌝ }
+    ensures drawn { λ r. ⌜ carriedOf r (now (map .exit)) (now (out .exit)) ≡ carryOut (act action) (drawingOf pen command look (now (map .entry))) at (now (out .entry)) ⌝ }
+    ensures bodies { λ r. ⌜ bodiesOf depth (now (cells .exit)) (now (places .exit)) ≡ readOnIf (r .refused) depth cursor (bodiesOf depth (now (cells .entry)) (now (places .entry))) ⌝ }
+{
+    let drawn = act(action, pen, command, look, map, out, at);
+    if drawn.refused {
+        return drawn;
+    }
+    read_on(cells, places, depth, cursor);
+    drawn
 }

@@ -11,14 +11,17 @@ use rules::Cursor;
 use rules::Read;
 use rules::Refusal;
 ghost use mathlib.Core.Path.{_≡_};
-ghost use Prim.Native.Nat.{_≤_, _<_, _-_};
+ghost use Prim.Native.Nat.{ℕ, _≤_, _<_, _-_};
 ghost use lib.ListN.{length, drop};
 ghost use Rattle.rules.specs.Reading.{consumedBy};
 ghost use Rattle.macros.specs.Lent.{Sized};
-ghost use Rattle.rules.proofs.Steps.{Valid};
+ghost use mathlib.Core.Bool.{true};
+ghost use mathlib.Core.List.{List};
+ghost use Rattle.rules.specs.declared.Drawing.{Drawing};
+ghost use Rattle.rules.specs.Ranges.{waitingFits};
 ghost use Rattle.bodies.specs.Stack.{bodiesOf};
 ghost use Rattle.reader.specs.Turn.{turn, nothingLeft, nextByte, sourceAt, leaves};
-ghost use Rattle.reader.specs.View.{stateAt, atDepth, leftOf};
+ghost use Rattle.reader.specs.View.{stateAt, atDepth, leftOf, Due, RoomBy};
 
 // The most that the records of one step take.
 const ROOM_FOR_STEP: usize = 120;
@@ -55,7 +58,7 @@ fn place_after(depth: u8, at: usize) -> usize
     if depth == 0 { at + 1 } else { at }
 }
 
-fn at_depth(progress: Progress, depth: u8) -> Progress
+pub fn at_depth(progress: Progress, depth: u8) -> Progress
     ensures { λ r. ⌜ r ≡ atDepth depth progress ⌝ }
 {
     let mut progress = progress;
@@ -63,19 +66,21 @@ fn at_depth(progress: Progress, depth: u8) -> Progress
     progress
 }
 
+// With so many bytes of the output free.
 pub fn turn(
     progress: Progress,
     budget: u32,
+    free: usize,
     cells: &mut [u8; 8],
     places: &mut [u8; 8],
     firsts: &mut [u8; 96],
-    map: &mut [u8; 48],
     store: &mut [u8],
     piece: &[u8],
-    out: &mut [u8],
 ) -> Turned
-    requires { ⌜ (Valid (stateAt budget progress (now cells) (now places) (now firsts) (now map) (now store))) × (progress .at ≤ length (now piece)) × (progress .written ≤ length (now out)) ⌝ }
-    ensures { λ r. ⌜ leftOf budget r (now (cells .exit)) (now (places .exit)) (now (firsts .exit)) (now (map .exit)) (now (store .exit)) (now (out .exit)) ≡ leaves (turn (length (now (out .entry)) - progress .written) (budget - progress .steps) (stateAt budget progress (now (cells .entry)) (now (places .entry)) (now (firsts .entry)) (now (map .entry)) (now (store .entry))) (drop (progress .at) (now (piece .entry)))) (progress .at) (progress .written) (now (out .entry)) ⌝ }
+    requires { ⌜ (Sized (now store)) × (progress .depth ≤ 8) × (waitingFits (progress .waiting) ≡ true) × (progress .at ≤ length (now piece)) ⌝ }
+    ensures left { λ r. ⌜ ((d : Drawing) (out : List ℕ) → leftOf budget (atDepth (r .progress .depth) progress) r (now (cells .exit)) (now (places .exit)) (now (firsts .exit)) d (now (store .exit)) out ≡ leaves (turn free (budget - progress .steps) (stateAt budget progress (now (cells .entry)) (now (places .entry)) (now (firsts .entry)) d (now (store .entry))) (drop (progress .at) (now (piece .entry)))) (progress .at) (progress .written) out) ⌝ }
+    ensures due { λ r. ⌜ Due (atDepth (r .progress .depth) progress) r ⌝ }
+    ensures room { λ r. ⌜ RoomBy (r .course) free ⌝ }
 {
     let depth = depth_left(store, cells, places, progress.depth);
     let at = progress.at;
@@ -83,7 +88,7 @@ pub fn turn(
     if nothing_left(depth, piece, at) {
         return ends(progress, Answer::Done);
     }
-    if out.len() - progress.written < ROOM_FOR_STEP {
+    if free < ROOM_FOR_STEP {
         return ends(progress, Answer::Full);
     }
     if budget <= progress.steps {
@@ -96,7 +101,7 @@ pub fn turn(
                 at: place_after(depth, at),
                 cursor,
             };
-            interpret(progress, next, byte, cells, places, firsts, map, store, out)
+            interpret(progress, next, byte, cells, places, firsts, store)
         }
     }
 }

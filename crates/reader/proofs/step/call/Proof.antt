@@ -1,4 +1,4 @@
-use Rattle.reader.proofs.StepLaws.{call-deep, call-goes}
+use Rattle.reader.proofs.StepLaws.{ends-due, call-deep, call-goes}
 use denote.Ref.{now}
 use borrow.Author.Needs.{needs}
 use Rattle.reader.proofs.step.call.Statement.{statement}
@@ -11,8 +11,10 @@ returns : tie.Need-returns
 returns c =
     let args· = c .before .before .args in
     let ends· = c .ends in
-    let if1· = c .before .if1 in
-    λ budget map st out. call-deep budget (args· .progress) (now (args· .cells)) (now (args· .places)) (now (args· .firsts)) map st out (args· .onward .cursor) (args· .name) (args· .reacted .sets) (args· .reacted .waiting) (ends· .result) (ends· .ensures) (if1· .taken)
+    let if1· = c .before .if1 in (
+      λ budget d st out. call-deep budget (args· .progress) (now (args· .cells)) (now (args· .places)) (now (args· .firsts)) d st out (args· .onward .cursor) (args· .name) (args· .reacted .sets) (args· .reacted .waiting) (ends· .result) (ends· .ensures) (if1· .taken),
+      ends-due (args· .progress) (args· .progress) (ends· .result) _ (ends· .ensures),
+    )
 
 read-on-requires : tie.Need-read-on-requires
 read-on-requires c κs = search needs
@@ -23,24 +25,26 @@ first-of-requires c κs = search needs
 set-body-requires : tie.Need-set-body-requires
 set-body-requires c κs = search needs
 
-add-goes-on : tie.Need-add-goes-on
-add-goes-on c = search needs
+add-counted : tie.Need-add-counted
+add-counted c = search needs
 
-goes-on-requires : tie.Need-goes-on-requires
-goes-on-requires c κs =
-    let pre· = c .before .before .before .before .before .before .before .before .before .before .before .before .pre in
+counted-requires : tie.Need-counted-requires
+counted-requires c κs =
+    let pre· = c .before .before .before .before .before .before .before .before .before .pre in
     pre· .0 .steps
 
 returns-2 : tie.Need-returns-2
 returns-2 c =
-    let args· = c .before .before .before .before .before .before .before .before .before .before .before .before .before .args in
-    let read-on· = c .before .before .before .before .before .before .before .before .read-on in
-    let set-body· = c .before .before .before .before .set-body in
-    let first-of· = c .before .before .before .before .before .before .before .first-of in
-    let if1· = c .before .before .before .before .before .before .before .before .before .before .before .before .if1 in
-    let pre· = c .before .before .before .before .before .before .before .before .before .before .before .before .before .pre in
-    let goes-on· = c .goes-on in
-    λ budget map st out. call-goes budget (args· .progress) (now (args· .cells)) (now (args· .places)) (now (args· .firsts)) map st out (args· .onward .cursor) (args· .name) (args· .reacted .sets) (args· .reacted .waiting) (read-on· .last .0) (read-on· .last .1 .0) (set-body· .last .0) (set-body· .last .1 .0) (first-of· .result) (args· .onward .at) (if1· .left) (read-on· .ensures) (first-of· .ensures) (set-body· .ensures) (pre· .0 .after) (goes-on· .result) (goes-on· .ensures)
+    let args· = c .before .before .before .before .before .before .before .before .before .before .args in
+    let read-on· = c .before .before .before .before .before .read-on in
+    let set-body· = c .before .set-body in
+    let first-of· = c .before .before .before .before .first-of in
+    let if1· = c .before .before .before .before .before .before .before .before .before .if1 in
+    let pre· = c .before .before .before .before .before .before .before .before .before .before .pre in
+    let counted· = c .counted in (
+      λ budget d st out. call-goes budget (args· .progress) (now (args· .cells)) (now (args· .places)) (now (args· .firsts)) d st out (args· .onward .cursor) (args· .name) (args· .reacted .sets) (args· .reacted .waiting) (read-on· .last .0) (read-on· .last .1 .0) (set-body· .last .0) (set-body· .last .1 .0) (first-of· .result) (args· .onward .at) (if1· .left) (read-on· .ensures) (first-of· .ensures) (set-body· .ensures) (pre· .0 .after) (counted· .result) (counted· .ensures),
+      tt,
+    )
 
 pub call-spec : {M : Type 1} → statement M
 call-spec =
@@ -51,6 +55,6 @@ call-spec =
     read-on-requires
     first-of-requires
     set-body-requires
-    add-goes-on
-    goes-on-requires
+    add-counted
+    counted-requires
     returns-2)
