@@ -1,5 +1,6 @@
 //! Reads the page on standard input without listing it, for measurements:
-//! `feedpage [ROUNDS]` prints `end`, the number of the end call and the steps.
+//! `feedpage [ROUNDS]` prints `end`, the number of the end call and the steps,
+//! then a byte of the output, so that the compiler cannot leave the records out.
 //!
 //! It does what the proved program of this name does: pieces of 64 KiB, an
 //! output of 4,096 records that are dropped. Standard input has to be a file
@@ -41,6 +42,7 @@ fn run() -> Result<(), Box<dyn Error>> {
     }
     let (number, steps) = last;
     println!("end {} {steps}", number as u8);
+    print!("{}", output.get(steps as usize).unwrap_or(&0));
     Ok(())
 }
 

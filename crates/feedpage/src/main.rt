@@ -1,6 +1,7 @@
 // Reads the page on standard input without listing it, for measurements, and prints `end`, the number of the end call and
-// the steps. An argument says how often the page is read, each time from its start and from an opened session; standard
-// input has to be a file for more than once. A read or a write that fails is said on standard error and ends the program.
+// the steps, then a byte of the output, so that no compiler can leave the records out. An argument says how often the page
+// is read, each time from its start and from an opened session; standard input has to be a file for more than once. A read
+// or a write that fails is said on standard error and ends the program.
 use libc::SEEK_SET;
 use libc::STDIN_FILENO;
 use libc::STDOUT_FILENO;
@@ -182,6 +183,13 @@ fn read_rounds(
     turn
 }
 
+fn byte_at(out: &[u8; 163840], i: usize) -> u8 {
+    if i < 163840 {
+        return out[i];
+    }
+    0
+}
+
 fn end_page(session: Session, store: &[u8; 8192], out: &mut [u8; 163840]) {
     let ended = end(session, store, out);
     let answer = ended.answer;
@@ -190,7 +198,10 @@ fn end_page(session: Session, store: &[u8; 8192], out: &mut [u8; 163840]) {
     let n = listing::put_closing(&mut text, number_of(answer), session.steps);
     if !io::write_all(STDOUT_FILENO, &text[..n]) {
         os::fail(b"standard output");
+        return;
     }
+    let byte = byte_at(out, session.steps as usize);
+    io::print_decimal(STDOUT_FILENO, byte as u64);
 }
 
 fn main() {
