@@ -1,7 +1,7 @@
 -- Runs of idle bytes, from what the calls hand back.
 -- Assumes nothing.
 use mathlib.Core.Path.{_≡_, refl, sym, ap, _∙_}
-use mathlib.Core.Bool.{Bool, true, false}
+use mathlib.Core.Bool.{true, false}
 use mathlib.Core.List.{List, [], _∷_}
 use mathlib.Core.Logic.{_⊎_, inl, inr}
 use Prim.Native.Nat.{ℕ, zero, suc, _+_}
@@ -21,7 +21,7 @@ use Rattle.rules.specs.declared.Definition.{Definition}
 use Rattle.rules.specs.declared.Sets.{Sets}
 use Rattle.rules.specs.declared.Waiting.{Waiting}
 use Rattle.rules.specs.declared.Waiting.the-variants.{Body}
-use Rattle.rules.specs.Coding.{Reaction, React, keep, inBody, classOf, reactTo, react}
+use Rattle.rules.specs.Coding.{React, keep, inBody, reactTo, react}
 use Rattle.rules.specs.Ranges.{waitingFits}
 use Rattle.rules.specs.Store.{Filling, Stored, storeByte}
 use Rattle.macros.specs.Runs.{Plain, Stores, none as stored-none, more as stored-more}

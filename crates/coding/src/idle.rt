@@ -44,7 +44,7 @@ fn is_graphic(waiting: Waiting, byte: u8) -> bool {
     }
 }
 
-// Whether there is a byte at the place and it may be idle. A byte read by itself from a set seldom is.
+// Whether to go on with the byte at the place, if there is one. A run may end anywhere; a byte read by itself from a set is seldom idle.
 fn may_be_idle(waiting: Waiting, bytes: &[u8], at: usize, to: usize) -> bool
     requires { ⌜ (at ≤ to) × (to ≤ length (now bytes)) ⌝ }
     ensures { λ r. ⌜ (r ≡ true → at < to) ⌝ }

@@ -1,6 +1,6 @@
 -- Laws of runs: bytes laid into a cell whose count is then set are bytes stored one after the other.
 -- Assumes nothing.
-use mathlib.Core.Path.{_≡_, refl, sym, ap, _∙_, subst}
+use mathlib.Core.Path.{_≡_, refl, ap, _∙_}
 use mathlib.Core.Bool.{true}
 use mathlib.Core.List.{List, [], _∷_}
 use Prim.Native.Nat.{ℕ, zero, suc, _+_, _*_, _<_, _≤_}
@@ -8,7 +8,6 @@ use native.Mathlib.Numerals.{add-one}
 use native.Mathlib.Omega.{arith}
 use lib.ListN.{length, getD, set}
 use lib.Seq.{set-getD}
-use Rattle.rules.specs.declared.Definition.{Definition}
 use Rattle.rules.specs.Store.{countOf, setCount, goodCount, setBodyByte, Filling, Stored, storeInLast, storeByte}
 use Rattle.macros.specs.Lent.{Sized}
 use Rattle.macros.specs.Runs.{Plain, Laid, Stores, none, more}
