@@ -1073,7 +1073,8 @@ impl Generator {
         self.escape(&[0x40, name]);
         let fill = self.random.pick(&[0, 1, 2, 29]);
         let kept = self.bodies[usize::from(name - 0x20)].length.div_ceil(CELL);
-        self.data((CELLS - (self.cells - kept)) * CELL - fill);
+        let free = (CELLS - (self.cells - kept)) * CELL;
+        self.data(free.saturating_sub(fill));
         let odd = self.random.chance(50);
         for _ in 0..20 {
             let byte = self.random.byte(0x20, 0x7F);

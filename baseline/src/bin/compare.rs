@@ -49,14 +49,16 @@ fn compare(other: &Path, seed: u64, first: u64, count: u64) -> Result<bool, Box<
         let ours = listing(&page);
         if ours != theirs {
             save(&page, &ours, &theirs)?;
-            println!("a difference in page {number} of seed {seed}, saved in {DIFFERENCE}");
+            println!("page {number} of seed {seed} differs:");
+            print_first_difference(&ours, &theirs);
+            println!("{DIFFERENCE}/page is the page, {DIFFERENCE}/baseline and {DIFFERENCE}/other its listings");
             return Ok(false);
         }
         if (done + 1) % PROGRESS == 0 {
             println!("{} pages", done + 1);
         }
     }
-    println!("{count} pages without a difference");
+    println!("{count} pages of seed {seed}, from page {first} on: no difference");
     Ok(true)
 }
 
@@ -97,10 +99,24 @@ fn write_in_pieces(mut input: ChildStdin, page: &[u8], cuts: &mut Random) -> io:
     Ok(())
 }
 
+fn print_first_difference(ours: &[u8], theirs: &[u8]) {
+    let ours = String::from_utf8_lossy(ours);
+    let theirs = String::from_utf8_lossy(theirs);
+    let (mut ours, mut theirs) = (ours.lines(), theirs.lines());
+    for line in 1.. {
+        let (our, their) = (ours.next(), theirs.next());
+        if our != their || our.is_none() {
+            println!("  line {line} of the baseline: {}", our.unwrap_or("none"));
+            println!("  line {line} of the other:    {}", their.unwrap_or("none"));
+            return;
+        }
+    }
+}
+
 fn save(page: &[u8], ours: &[u8], theirs: &[u8]) -> io::Result<()> {
     let folder = Path::new(DIFFERENCE);
     fs::create_dir_all(folder)?;
     fs::write(folder.join("page"), page)?;
-    fs::write(folder.join("ours"), ours)?;
-    fs::write(folder.join("theirs"), theirs)
+    fs::write(folder.join("baseline"), ours)?;
+    fs::write(folder.join("other"), theirs)
 }

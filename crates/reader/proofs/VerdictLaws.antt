@@ -1,23 +1,22 @@
 -- The tests before a feed or an end, by their outcomes
-use mathlib.Core.Path.{_≡_, sym, _∙_}
+use mathlib.Core.Path.{_≡_, refl, sym, _∙_}
 use mathlib.Core.Bool.{Bool, true, false, _&&_}
 use mathlib.Core.List.{List}
 use Prim.Native.Nat.{ℕ, _-_}
 use lib.ListN.{length}
-use lib.Dec.{eqb}
-use borrow.Author.Tests.{eq-eqb}
 use Rattle.rules.specs.declared.Refusal.{Refusal}
 use Rattle.rules.specs.declared.Session.{Session}
 use Rattle.rules.specs.declared.Status.{Status}
+use Rattle.rules.specs.declared.Status.the-variants.{Running, Ended, Stopped}
 use Rattle.rules.specs.declared.Verdict.{Verdict}
 use Rattle.rules.specs.declared.Verdict.the-variants.{Passes, Fails}
 use Rattle.rules.specs.declared.Answer.the-variants.{Refused}
 use Rattle.rules.specs.Ranges.{bodiesFit, waitingFits, drawingFits, fits}
-use Rattle.rules.specs.Store.{storeSize}
 use Rattle.rules.specs.Reading.{Room, reading, verdict, tests}
 use Rattle.rules.specs.Calls.{handed, feed}
 use Rattle.rules.proofs.Steps.{Valid, tests-valid}
 use Rattle.rules.proofs.Readings.{reads-failed, reads-passed}
+use Rattle.reader.specs.Answers.{inOrder}
 use Rattle.reader.specs.Handing.{stateLent, handedOf}
 
 -- The ranges: of the bodies, then of what is waited for, then of drawing
@@ -29,8 +28,16 @@ pub fits-by : (s : Session) {b d : Bool} → bodiesFit (s .bodies) ≡ true → 
 unfolding fits
 fits-by s h p q = rw (h, p, q)
 
-pub verdict-by : (size : ℕ) {x y : Status} (f : Bool) → size ≡ storeSize → x ≡ y → verdict true y f ≡ verdict (eqb size storeSize) x f
-verdict-by size f h e = rw (eq-eqb size storeSize h, e)
+-- The three tests in their order are the verdict
+pub in-order : (b : Bool) (x : Status) (f : Bool) {u v w t r : Verdict} → u ≡ verdict b Running true → v ≡ verdict true x true → w ≡ verdict true Running f → t ≡ inOrder u v → r ≡ inOrder t w → r ≡ verdict b x f
+in-order b x f p q k m n = n ∙ rw (m, p, q, k) (by b x f)
+  where
+    by : (b : Bool) (x : Status) (f : Bool) → inOrder (inOrder (verdict b Running true) (verdict true x true)) (verdict true Running f) ≡ verdict b x f
+    by false x f = refl
+    by true Ended f = refl
+    by true (Stopped r) f = refl
+    by true Running false = refl
+    by true Running true = refl
 
 -- Feed: what is lent fails a test and is handed back, or passes them and is read
 module _ (s : Session) (st piece out : List ℕ) (v : Verdict) (e : v ≡ tests (stateLent s st)) where

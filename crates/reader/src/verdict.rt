@@ -12,6 +12,7 @@ ghost use lib.Dec.{eqb};
 ghost use Rattle.rules.specs.Ranges.{fits};
 ghost use Rattle.rules.specs.Store.{storeSize};
 ghost use Rattle.rules.specs.Reading.{verdict};
+ghost use Rattle.reader.specs.Answers.{inOrder};
 
 pub const STORE_SIZE: usize = 8192;
 
@@ -32,7 +33,29 @@ fn fits(session: Session) -> bool
     waiting_fits(waiting) && drawing_fits(pen, command, look)
 }
 
-fn in_range(session: Session) -> Verdict
+// 12.
+fn of_size(size: usize) -> Verdict
+    ensures { λ r. ⌜ r ≡ verdict (eqb size storeSize) Status.Running true ⌝ }
+{
+    if size != STORE_SIZE {
+        return Verdict::Fails(Refusal::StoreSize);
+    }
+    Verdict::Passes
+}
+
+// 14, or what stopped the session.
+fn of_status(status: Status) -> Verdict
+    ensures { λ r. ⌜ r ≡ verdict true status true ⌝ }
+{
+    match status {
+        Status::Running => Verdict::Passes,
+        Status::Ended => Verdict::Fails(Refusal::AfterEnd),
+        Status::Stopped(refusal) => Verdict::Fails(refusal),
+    }
+}
+
+// 13.
+fn of_ranges(session: Session) -> Verdict
     ensures { λ r. ⌜ r ≡ verdict true Status.Running (fits session) ⌝ }
 {
     if fits(session) {
@@ -41,16 +64,23 @@ fn in_range(session: Session) -> Verdict
     Verdict::Fails(Refusal::OutOfRange)
 }
 
+// Two tests, the second where the first passes.
+fn in_order(first: Verdict, second: Verdict) -> Verdict
+    ensures { λ r. ⌜ r ≡ inOrder first second ⌝ }
+{
+    match first {
+        Verdict::Fails(refusal) => Verdict::Fails(refusal),
+        Verdict::Passes => second,
+    }
+}
+
 pub fn verdict(session: Session, size: usize) -> Verdict
     ensures { λ r. ⌜ r ≡ verdict (eqb size storeSize) (session .status) (fits session) ⌝ }
 {
-    if size != STORE_SIZE {
-        return Verdict::Fails(Refusal::StoreSize);
-    }
+    let sized = of_size(size);
     let status = session.status;
-    match status {
-        Status::Running => in_range(session),
-        Status::Ended => Verdict::Fails(Refusal::AfterEnd),
-        Status::Stopped(refusal) => Verdict::Fails(refusal),
-    }
+    let open = of_status(status);
+    let ranges = of_ranges(session);
+    let first = in_order(sized, open);
+    in_order(first, ranges)
 }

@@ -1,7 +1,7 @@
 use mathlib.Core.Path.{sym, _∙_}
 use borrow.Author.Needs.{needs}
-use Rattle.reader.proofs.verdict.in_range.Statement.{statement}
-use Rattle.reader.proofs.verdict.in_range.Tie as tie
+use Rattle.reader.proofs.verdict.of_ranges.Statement.{statement}
+use Rattle.reader.proofs.verdict.of_ranges.Tie as tie
 
 fits-requires : tie.Need-fits-requires
 fits-requires c κs = search needs
@@ -18,5 +18,5 @@ returns-2 c =
     let if1· = c .if1 in
     rw (sym (fits2· .ensures) ∙ if1· .left)
 
-pub in-range-spec : {M : Type 1} → statement M
-in-range-spec = tie.close (tie.spec fits-requires returns returns-2)
+pub of-ranges-spec : {M : Type 1} → statement M
+of-ranges-spec = tie.close (tie.spec fits-requires returns returns-2)

@@ -1,0 +1,217 @@
+// Reads the page on standard input without listing it, for measurements, and prints `end`, the number of the end call and
+// the steps, then a byte of the output, so that no compiler can leave the records out. An argument says how often the page
+// is read, each time from its start and from an opened session; standard input has to be a file for more than once. A read
+// or a write that fails is said on standard error and ends the program.
+use libc::SEEK_SET;
+use libc::STDIN_FILENO;
+use libc::STDOUT_FILENO;
+use reader::end::end;
+use reader::feed::feed;
+use reader::number::number_of;
+use reader::open::open;
+use reader::unread::unread;
+use rules::Answer;
+use rules::Session;
+ghost use mathlib.Core.Path.{_≡_};
+
+const MOST_ROUNDS: u32 = 1000000;
+
+// What follows a piece: the next piece, the end of the page, or nothing, since a read failed.
+enum Next {
+    Read,
+    End,
+    Failed,
+}
+
+struct Turn {
+    session: Session,
+    next: Next,
+}
+
+fn wide(byte: u8) -> u32
+    ensures { λ r. ⌜ r ≡ byte ⌝ }
+{
+    byte as u32
+}
+
+// The number that decimal digits stand for, as far as they are digits and stay in range.
+fn number_in(text: &[u8]) -> u32 {
+    let mut number: u32 = 0;
+    let mut i: usize = 0;
+    while i < text.len() {
+        let digit = text[i];
+        if digit < 48 {
+            return number;
+        }
+        if 57 < digit {
+            return number;
+        }
+        if MOST_ROUNDS < number {
+            return number;
+        }
+        number = 10 * number + wide(digit - 48);
+        i += 1;
+    }
+    number
+}
+
+fn rounds_asked() -> u32 {
+    if os::arg_count() < 2 {
+        return 1;
+    }
+    let mut text = [0u8; 16];
+    let n = os::arg(1, &mut text);
+    number_in(&text[..n])
+}
+
+fn next_after(answer: Answer) -> Next {
+    match answer {
+        Answer::Done => Next::Read,
+        Answer::Full => Next::Failed,
+        Answer::Refused(_) => Next::End,
+    }
+}
+
+// Feeds a piece until it is read or a step is refused. A proved loop has to end, so it counts its turns down, from a number
+// that no run uses up.
+fn feed_piece(
+    session: Session,
+    store: &mut [u8; 8192],
+    piece: &[u8],
+    out: &mut [u8; 163840],
+) -> Turn {
+    let mut session = session;
+    let mut rest = piece;
+    let mut turns = u64::MAX;
+    while turns > 0 {
+        let fed = feed(session, store, rest, out);
+        session = fed.session;
+        let answer = fed.answer;
+        let Answer::Full = answer else {
+            let next = next_after(answer);
+            return Turn { session, next };
+        };
+        let left = unread(rest, fed.consumed);
+        rest = left;
+        turns -= 1;
+    }
+    Turn {
+        session,
+        next: Next::Failed,
+    }
+}
+
+fn read_once(
+    session: Session,
+    store: &mut [u8; 8192],
+    piece: &mut [u8],
+    out: &mut [u8; 163840],
+) -> Turn {
+    let got = libc::read(STDIN_FILENO, piece);
+    if got < 0 {
+        os::fail(b"standard input");
+        return Turn {
+            session,
+            next: Next::Failed,
+        };
+    }
+    if got == 0 {
+        return Turn {
+            session,
+            next: Next::End,
+        };
+    }
+    let n = io::count(got, piece);
+    feed_piece(session, store, &piece[..n], out)
+}
+
+fn read_page(
+    session: Session,
+    store: &mut [u8; 8192],
+    piece: &mut [u8],
+    out: &mut [u8; 163840],
+) -> Turn {
+    let mut session = session;
+    let mut turns = u64::MAX;
+    while turns > 0 {
+        let turn = read_once(session, store, piece, out);
+        session = turn.session;
+        let next = turn.next;
+        let Next::Read = next else {
+            return turn;
+        };
+        turns -= 1;
+    }
+    Turn {
+        session,
+        next: Next::Failed,
+    }
+}
+
+// Reads the page once more from its start.
+fn read_again(store: &mut [u8; 8192], piece: &mut [u8], out: &mut [u8; 163840]) -> Turn {
+    let opened = open(store, u32::MAX);
+    let session = opened.session;
+    if libc::lseek(STDIN_FILENO, 0, SEEK_SET) != 0 {
+        os::fail(b"standard input");
+        return Turn {
+            session,
+            next: Next::Failed,
+        };
+    }
+    read_page(session, store, piece, out)
+}
+
+fn read_rounds(
+    rounds: u32,
+    store: &mut [u8; 8192],
+    piece: &mut [u8],
+    out: &mut [u8; 163840],
+) -> Turn {
+    let opened = open(store, u32::MAX);
+    let mut turn = read_page(opened.session, store, piece, out);
+    let mut left = rounds;
+    while left > 1 {
+        let next = turn.next;
+        let Next::End = next else {
+            return turn;
+        };
+        end(turn.session, store, out);
+        turn = read_again(store, piece, out);
+        left -= 1;
+    }
+    turn
+}
+
+fn byte_at(out: &[u8; 163840], i: usize) -> u8 {
+    if i < 163840 {
+        return out[i];
+    }
+    0
+}
+
+fn end_page(session: Session, store: &[u8; 8192], out: &mut [u8; 163840]) {
+    let ended = end(session, store, out);
+    let answer = ended.answer;
+    let session = ended.session;
+    let mut text = [0u8; 32];
+    let n = listing::put_closing(&mut text, number_of(answer), session.steps);
+    if !io::write_all(STDOUT_FILENO, &text[..n]) {
+        os::fail(b"standard output");
+        return;
+    }
+    let byte = byte_at(out, session.steps as usize);
+    io::print_decimal(STDOUT_FILENO, byte as u64);
+}
+
+fn main() {
+    let mut store = [0u8; 8192];
+    let mut piece = [0u8; 65536];
+    let mut out = [0u8; 163840];
+    let turn = read_rounds(rounds_asked(), &mut store, &mut piece, &mut out);
+    let session = turn.session;
+    let next = turn.next;
+    if let Next::End = next {
+        end_page(session, &store, &mut out);
+    }
+}
