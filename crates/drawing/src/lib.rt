@@ -2,6 +2,7 @@
 pub mod closing;
 pub mod operands;
 pub mod ranges;
+pub mod tracing;
 
 use crate::closing::close;
 use crate::closing::opened;
