@@ -4,3 +4,4 @@ pub mod OperandLaws
 pub mod ClosingLaws
 pub mod ActionLaws
 pub mod ActsLaws
+pub mod RunLaws
