@@ -4,3 +4,5 @@ pub mod OperandLaws
 pub mod ClosingLaws
 pub mod ActionLaws
 pub mod TraceLaws
+pub mod ActsLaws
+pub mod RunLaws
