@@ -4,3 +4,6 @@ pub mod OperandLaws
 pub mod ClosingLaws
 pub mod ActionLaws
 pub mod TextLaws
+pub mod TraceLaws
+pub mod ActsLaws
+pub mod RunLaws

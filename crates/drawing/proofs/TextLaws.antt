@@ -30,6 +30,7 @@ use Rattle.records.proofs.Heads.{record-bytes, head-code}
 use Rattle.figures.specs.Carried.{Carried}
 use Rattle.figures.proofs.Carrying.{carry-one}
 use Rattle.drawing.specs.Run.{ActsAs, Run, none, more, standing}
+use Rattle.drawing.proofs.ActsLaws.{graphic-acts}
 use Rattle.drawing.specs.Text.{lastCharacter, commandAfter, typed}
 
 last-least : (x : Repertoire) → lastCharacter x ≤ 127
@@ -49,7 +50,7 @@ prints Drcs b h = refl
 acts : (x : Repertoire) (b : ℕ) → 32 ≤ b → b ≤ lastCharacter x → ActsAs (Characters x) b (Character x b)
 unfolding graphic
 acts x b h g =
-    record { least = h; most = omega (arith, last-least x); asks = λ c st. ap (React c st) (prints x b g) }
+    graphic-acts (Characters x) b (Character x b) h (omega (arith, last-least x)) (λ c st. ap (React c st) (prints x b g))
 
 -- No command is open after characters
 none-open : (n : ℕ) (c : Command) → c .opcode ≡ 0 → commandAfter n c .opcode ≡ 0

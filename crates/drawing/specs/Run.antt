@@ -12,16 +12,15 @@ use Rattle.rules.specs.declared.Look.{Look}
 use Rattle.rules.specs.declared.Pen.{Pen}
 use Rattle.rules.specs.declared.Record.{Record}
 use Rattle.rules.specs.declared.Set.{Set}
-use Rattle.rules.specs.Coding.{React, graphic}
+use Rattle.rules.specs.declared.Waiting.the-variants.{Nothing}
+use Rattle.rules.specs.Coding.{React, setOf, react}
 use Rattle.rules.specs.Drawing.{Draw, act}
 use Rattle.rules.specs.Reading.{roomForStep}
 use Rattle.figures.specs.Carried.{Carried, carry, drawingOf}
 
--- A byte of a set that asks an action of drawing, and changes nothing else
+-- A byte that asks an action of drawing and changes nothing else, wherever nothing is waited for and the set is in use
 pub record ActsAs (s : Set) (b : ℕ) (a : Action) : Type 0 where
-  pub least : 32 ≤ b
-  pub most : b ≤ 127
-  pub asks : (c : Coding) (st : List ℕ) → graphic s c st b ≡ React c st a
+  pub asks : (c : Coding) (st : List ℕ) → c .waiting ≡ Nothing → setOf (c .sets .used) (c .sets) ≡ s → react c st b ≡ React c st a
 
 -- A drawing state in its parts, at a place of an output
 abbrev pub standing : Pen → Command → Look → List ℕ → ℕ → List ℕ → Carried

@@ -4,6 +4,7 @@ pub mod operands;
 pub mod ranges;
 pub mod runs;
 pub mod text;
+pub mod tracing;
 
 use crate::closing::close;
 use crate::closing::opened;

@@ -31,6 +31,18 @@ recoded n d h =
     let e : n % 16777216 ≡ n % 256 + 256 * (n / 256 % 256) + 65536 * (n / 65536 % 256) = omega arith in
     ap (λ (k : ℕ). word (k + 16777216 * d)) e ∙ joined (n % 256) (n / 256 % 256) (n / 65536 % 256) d (omega arith) (omega arith) (omega arith) h
 
+-- A number with two other lowest bytes
+pub rekinded : (n a b : ℕ) → a ≤ 255 → b ≤ 255 → word (n / 65536 * 65536 + 256 * b + a) ≡ a ∷ b ∷ n / 65536 % 256 ∷ n / 16777216 % 256 ∷ []
+unfolding word
+rekinded n a b ha hb =
+    let k = n / 65536 * 65536 + 256 * b + a in
+    let q1 : k / 256 ≡ n / 65536 * 256 + b = omega arith in
+    let q2 : k / 65536 ≡ n / 65536 = omega arith in
+    let q3 : k / 16777216 ≡ n / 16777216 = omega arith in
+    let e0 : k % 256 ≡ a = omega arith in
+    let e1 : (n / 65536 * 256 + b) % 256 ≡ b = omega arith in
+    rw (q1, q2, q3, e0, e1)
+
 -- A record's bytes, its head known as numbers
 pub record-bytes : (r : Record) (h : Head) → headBytes h ≡ headOf r → headBytes h ++ words (r .p0) ++ words (r .p1) ++ words (r .p2) ++ words (r .pel) ≡ bytesOf r
 unfolding bytesOf
@@ -43,3 +55,11 @@ pub head-code : (g h : Head) (l : Look) (kind flags set′ old code : ℕ) (p q 
     → headBytes g ≡ headOf (recordOf l kind flags set′ code p q r)
 unfolding recordOf
 head-code g h l kind flags set′ old code p q r e f = f ∙ ap (λ (bs : List ℕ). set bs 7 code) e
+
+-- A head of another kind, with other flags
+pub head-kind : (g h : Head) (l : Look) (old flags′ kind flags set′ code : ℕ) (p q r : Point)
+    → headBytes h ≡ headOf (recordOf l old flags′ set′ code p q r)
+    → headBytes g ≡ set (set (headBytes h) 0 kind) 1 flags
+    → headBytes g ≡ headOf (recordOf l kind flags set′ code p q r)
+unfolding recordOf
+head-kind g h l old flags′ kind flags set′ code p q r e f = f ∙ ap (λ (bs : List ℕ). set (set bs 0 kind) 1 flags) e

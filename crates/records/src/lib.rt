@@ -55,6 +55,16 @@ pub fn with_code(head: Head, code: u8) -> Head
     }
 }
 
+// The same head of another kind, with other flags.
+pub fn with_kind(head: Head, kind: u8, flags: u8) -> Head
+    ensures { λ r. ⌜ headBytes r ≡ set (set (headBytes head) 0 kind) 1 flags ⌝ }
+{
+    Head {
+        first: head.first / 65536 * 65536 + 256 * (flags as u32) + kind as u32,
+        second: head.second,
+    }
+}
+
 pub fn put_words(out: &mut [u8], at: usize, head: Head, p0: Point, p1: Point, p2: Point, pel: Point)
     requires { ⌜ at + 40 ≤ length (now out) ⌝ }
     ensures { λ _. ⌜ now (out .exit) ≡ overwrite at (headBytes head ++ words p0 ++ words p1 ++ words p2 ++ words pel) (now (out .entry)) ⌝ }
