@@ -1,4 +1,6 @@
 // The stack of running macro bodies, outermost first, lent as two arrays beside the depth.
+pub mod calls;
+
 use macros::cells::MOST_BYTES;
 use macros::cursors::has_left;
 use macros::cursors::read_body;
@@ -15,7 +17,7 @@ ghost use Rattle.bodies.specs.Stack.{bodiesOf};
 
 pub const MOST_DEPTH: u8 = 8;
 
-fn body_at(cells: &[u8; 8], places: &[u8; 8], index: u8) -> Cursor
+pub fn body_at(cells: &[u8; 8], places: &[u8; 8], index: u8) -> Cursor
     requires { ⌜ index < 8 ⌝ }
     ensures { λ r. ⌜ ((d : ℕ) → r ≡ bodyAt (bodiesOf d (now (cells .entry)) (now (places .entry))) index) ⌝ }
 {

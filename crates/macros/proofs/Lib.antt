@@ -3,3 +3,4 @@ pub mod ChainLaws
 pub mod StoringLaws
 pub mod EscapeLaws
 pub mod RunLaws
+pub mod StretchLaws

@@ -3,3 +3,4 @@ pub mod Freeing
 pub mod Storing
 pub mod Room
 pub mod Runs
+pub mod Stretch

@@ -2,6 +2,7 @@
 ghost use mathlib.Core.Path.{_≡_};
 ghost use Prim.Native.Nat.{_+_, _-_, _<_, _≤_};
 ghost use lib.ListN.{length};
+ghost use Prim.Native.Nat.{_+_, _*_, _≤_, _<_};
 ghost use Rattle.rules.specs.Store.{nextOf, setNext, countOf, setCount, mostBytes, goodCount, bodyByte, setBodyByte};
 ghost use Rattle.macros.specs.Lent.{Sized};
 ghost use Rattle.macros.specs.Runs.{Laid};
@@ -48,6 +49,14 @@ pub fn good_count(count: u8) -> bool
     ensures { λ r. ⌜ r ≡ goodCount count ⌝ }
 {
     1 <= count && count <= MOST_BYTES
+}
+
+// Where a body byte lies in the store.
+pub fn place_in_store(cell: u8, place: u8) -> usize
+    requires { ⌜ place ≤ mostBytes ⌝ }
+    ensures { λ r. ⌜ r ≡ 32 * cell + 2 + place ⌝ }
+{
+    CELL_SIZE * (cell as usize) + 2 + (place as usize)
 }
 
 pub fn body_byte(store: &[u8], cell: u8, place: u8) -> u8
