@@ -1,5 +1,7 @@
 pub mod Turns
 pub mod Whole
+pub mod WalkLaws
+pub mod RunLaws
 pub mod StepLaws
 pub mod TurnLaws
 pub mod ReadLaws
