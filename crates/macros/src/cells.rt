@@ -1,8 +1,7 @@
 // One cell of the store. Only this file knows where the parts of a cell lie.
 ghost use mathlib.Core.Path.{_≡_};
-ghost use Prim.Native.Nat.{_+_, _-_, _<_, _≤_};
+ghost use Prim.Native.Nat.{_+_, _*_, _-_, _<_, _≤_};
 ghost use lib.ListN.{length};
-ghost use Prim.Native.Nat.{_+_, _*_, _≤_, _<_};
 ghost use Rattle.rules.specs.Store.{nextOf, setNext, countOf, setCount, mostBytes, goodCount, bodyByte, setBodyByte};
 ghost use Rattle.macros.specs.Lent.{Sized};
 ghost use Rattle.macros.specs.Runs.{Laid};

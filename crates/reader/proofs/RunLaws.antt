@@ -72,7 +72,7 @@ acts-goes : (budget steps : ℕ) (y : Bodies) (c : Coding) (d e : Drawing) (st :
     → interpret (stateOf budget steps Running y c d st) s b ≡ Goes (stateOf budget (suc steps) Running y c e st) rs
 unfolding interpret onReaction onOutcome
 acts-goes budget steps y c d e st s b a rs h f g =
-    rw (inside-not s (c .waiting) b h, react-graphic c st b h (f .least) (f .most) ∙ f .asks c st, g)
+    rw (inside-not s (c .waiting) b h, f .asks c st h refl, g)
 
 -- Where a run's bytes are read: byte k of the run is the one sought after k steps, and the bodies and the place of the piece are then these
 pub record Feeds (piece bytes : List ℕ) (from limit : ℕ) (st : List ℕ) (s : Source) (bodies : ℕ → Bodies) (at : ℕ → ℕ) : Type 0 where
