@@ -4,6 +4,7 @@ pub mod WalkLaws
 pub mod RunLaws
 pub mod StepLaws
 pub mod TurnLaws
+pub mod ProgressLaws
 pub mod ReadLaws
 pub mod VerdictLaws
 pub mod EndLaws

@@ -6,7 +6,7 @@ use mathlib.Core.Path.{_≡_, refl, sym, ap, _∙_, subst}
 use mathlib.Core.Bool.{Bool, true, false}
 use mathlib.Core.List.{List, [], _∷_}
 use lib.ListN.{length, drop, getD, set}
-use lib.Seq.{drop-cons, getD-set-same}
+use lib.Seq.{drop-cons, getD-set-same, set-getD}
 use lib.Dec.{ltb}
 use borrow.Author.Tests.{le-ltb}
 use Rattle.rules.specs.declared.Action.{Action}
@@ -124,22 +124,26 @@ set-set [] i a b = refl
 set-set (x ∷ l) zero a b = refl
 set-set (x ∷ l) (suc i) a b = ap (λ (m : List ℕ). x ∷ m) (set-set l i a b)
 
-module _ (piece : List ℕ) (at from limit i : ℕ) (cells places st : List ℕ) (x : Cursor) (g : (k : ℕ) → k < limit → Gives st x from k)
-    (long : i < length cells) (wide : i < length places)
+first-zero : (l : List ℕ) → getD (set l 0 0) 0 0 ≡ 0
+first-zero [] = refl
+first-zero (x ∷ l) = refl
+
+module _ (piece : List ℕ) (at from limit i : ℕ) (cells places st : List ℕ) (x : Cursor) (e : x .cell ≡ getD cells i 0) (wide : i < length places)
+    (g : (k : ℕ) → k < limit → Gives st x from k)
   where
     abbrev pub readTo : ℕ → Bodies
-    readTo k = bodiesOf (suc i) (set cells i (x .cell)) (set places i (x .place + k))
+    readTo k = bodiesOf (suc i) cells (set places i (x .place + k))
 
     read-here : (k : ℕ) → bodyAt (readTo k) i ≡ onBy k x
-    read-here k =
-        rw (getD-set-same cells i (x .cell) 0 long, getD-set-same places i (x .place + k) 0 wide)
+    read-here k = rw (← e, getD-set-same places i (x .place + k) 0 wide)
 
     body-found : (k : ℕ) → k < limit → (budget steps : ℕ) (c : Coding) (d : Drawing)
         → seek (removeSpent (stateOf budget steps Running (readTo k) c d st)) (drop at piece)
         ≡ Found (getD st (from + k) 0) (stateOf budget steps Running (readTo (suc k)) c d st) FromBody (drop at piece)
     unfolding seek seekAt removeSpent unspent depthLeft fromBody
     body-found k l budget steps c d =
-        rw (read-here k, g k l .left, read-here k, g k l .read, set-set cells i (x .cell) (x .cell), set-set places i (x .place + k) (x .place + suc k))
+        let same : set cells i (x .cell) ≡ cells = rw e (set-getD cells i 0) in
+        rw (read-here k, g k l .left, read-here k, g k l .read, same, set-set places i (x .place + k) (x .place + suc k))
 
     pub body-feeds : Feeds piece st from limit st FromBody readTo (λ k. at)
     body-feeds = record { rest = λ k. drop at piece; sought = body-found; on = λ k. refl }
@@ -181,7 +185,7 @@ module _ (piece : List ℕ) (at written budget steps : ℕ) (cells places : List
     called zero = bodiesOf 0 cells places
     called (suc n) = bodiesOf 1 (set cells 0 0) (set places 0 0)
 
-    module _ (c : Coding) (st : List ℕ) (h : c .waiting ≡ Nothing) (m : setOf (c .sets .used) (c .sets) ≡ Macro) (some : 0 < length cells) where
+    module _ (c : Coding) (st : List ℕ) (h : c .waiting ≡ Nothing) (m : setOf (c .sets .used) (c .sets) ≡ Macro) where
       call-goes : (n : ℕ) (y : Bodies) (b : ℕ) → y .depth ≡ 0 → 32 ≤ b → b ≤ 127 → firstOf (c .firsts) b ≡ 0
           → interpret (stateOf budget n Running y c d st) FromPiece b ≡ Goes (stateOf budget (suc n) Running (bodiesOf 1 (set (y .cells) 0 0) (set (y .places) 0 0)) c d st) []
       unfolding interpret opensInside onReaction call graphic
@@ -189,7 +193,7 @@ module _ (piece : List ℕ) (at written budget steps : ℕ) (cells places : List
 
       empty-spent : (n : ℕ) → removeSpent (stateOf budget n Running (called 1) c d st) ≡ stateOf budget n Running (bodiesOf 0 (set cells 0 0) (set places 0 0)) c d st
       unfolding removeSpent unspent depthLeft hasLeft
-      empty-spent n = rw (getD-set-same cells 0 0 0 some)
+      empty-spent n = rw (first-zero cells)
 
       call-step : {x : Place} (n : ℕ) → n < limit → NamesEmpty (c .firsts) (getD piece (at + n) 0)
           → Walk piece x (quiet n (called n) c st) → Walk piece x (quiet (suc n) (called (suc n)) c st)

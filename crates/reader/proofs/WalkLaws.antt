@@ -5,16 +5,14 @@ use mathlib.Core.Path.{_≡_, refl, sym, _∙_, subst}
 use mathlib.Core.List.{List}
 use lib.ListN.{length, drop}
 use Rattle.rules.specs.declared.Record.{Record}
-use Rattle.rules.specs.Record.{bytesOfAll}
-use Rattle.rules.specs.Reading.{Room, consumedBy, reading}
+use Rattle.rules.specs.Reading.{Room}
 use Rattle.rules.specs.Step.{State, removeSpent, Source}
 use Rattle.rules.proofs.Readings.{reading-removed}
-use Rattle.rules.proofs.Steps.{remove-later}
-use Rattle.records.proofs.Writes.{overwrite-length}
+use Rattle.rules.proofs.Steps.{Valid, remove-later}
 use Rattle.reader.specs.Turn.{Steps, turn}
-use Rattle.reader.specs.Walk.{Place, budgetLeft, Walk, none, removed, step, Sound}
+use Rattle.reader.specs.Walk.{Place, budgetLeft, Walk, none, removed, step}
 use Rattle.reader.proofs.Turns.{Advance, Follows, turn-follows}
-use Rattle.reader.proofs.Whole.{Kept, kept-on, consumed-within}
+use Rattle.reader.proofs.Whole.{Kept, kept-on}
 
 pub walk-then : {piece : List ℕ} {x y z : Place} → Walk piece x y → Walk piece y z → Walk piece x z
 walk-then a none = a
@@ -25,35 +23,15 @@ module _ (piece : List ℕ) where
   abbrev room : Place → ℕ
   room y = length (y .output) - y .written
 
-  advances : (y : Place) {s : Source} {u : State} {rs : List Record} → Sound piece y
+  advances : (y : Place) {s : Source} {u : State} {rs : List Record} → Valid (y .state)
       → turn (room y) (budgetLeft (y .state)) (y .state) (drop (y .at) piece) ≡ Steps s u rs
       → Advance (room y) (budgetLeft (y .state)) (y .state) (drop (y .at) piece) s u rs
   advances y i e =
       subst (Follows (room y) (budgetLeft (y .state)) (y .state) (drop (y .at) piece)) e
-      (turn-follows (room y) (budgetLeft (y .state)) (y .state) (drop (y .at) piece) (i .valid))
-
-  pub walk-sound : {x y : Place} → Walk piece x y → Sound piece x → Sound piece y
-  walk-sound none i = i
-  walk-sound (removed {y} a) i =
-      let j = walk-sound a i in
-      record { valid = remove-later (y .state) .valid (j .valid); on = j .on; within = j .within }
-  walk-sound (step {y} {s} {u} {rs} a e) i =
-      let j = walk-sound a i in
-      let f = advances y j e in
-      let few = f .few in
-      let free = f .free in
-      let h : y .written + length (bytesOfAll rs) ≤ length (y .output) = omega arith in
-      record {
-        valid = f .later .valid (j .valid);
-        on = consumed-within s (y .at) piece (j .on) (f .some);
-        within = rw (overwrite-length (bytesOfAll rs) (y .output) (y .written) h) h;
-      }
+      (turn-follows (room y) (budgetLeft (y .state)) (y .state) (drop (y .at) piece) i)
 
   abbrev KeptAt : State → List ℕ → Place → Type 0
   KeptAt w out x = Kept w piece out (x .state) (x .at) (x .written) (x .output)
-
-  pub kept-sound : {w : State} {out : List ℕ} {x : Place} → KeptAt w out x → Sound piece x
-  kept-sound i = record { valid = i .sound; on = i .on; within = i .within }
 
   pub walk-keeps : (w : State) (out : List ℕ) {x y : Place} → Walk piece x y → KeptAt w out x
       → (KeptAt w out y) × (x .state .session .steps ≤ y .state .session .steps)
@@ -73,7 +51,7 @@ module _ (piece : List ℕ) where
       )
   walk-keeps w out (step {y} {s} {u} {rs} a e) i =
       let j = walk-keeps w out a i in
-      let f = advances y (kept-sound (j .0)) e in
+      let f = advances y (j .0 .sound) e in
       let n = f .later .steps in
       let k = j .1 in
       (kept-on w piece out (y .state) (y .at) (y .written) (y .output) (j .0) f, omega arith)
