@@ -5,3 +5,4 @@ pub mod ClosingLaws
 pub mod ActionLaws
 pub mod ActsLaws
 pub mod RunLaws
+pub mod StrokeLaws

@@ -2,6 +2,8 @@
 pub mod closing;
 pub mod operands;
 pub mod ranges;
+pub mod runs;
+pub mod strokes;
 
 use crate::closing::close;
 use crate::closing::opened;
