@@ -7,3 +7,4 @@ pub mod TextLaws
 pub mod TraceLaws
 pub mod ActsLaws
 pub mod RunLaws
+pub mod StrokeLaws

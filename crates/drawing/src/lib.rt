@@ -5,6 +5,7 @@ pub mod ranges;
 pub mod runs;
 pub mod text;
 pub mod tracing;
+pub mod strokes;
 
 use crate::closing::close;
 use crate::closing::opened;
