@@ -6,3 +6,5 @@ pub mod ActionLaws
 pub mod TraceLaws
 pub mod ActsLaws
 pub mod RunLaws
+pub mod PointLaws
+pub mod FinishLaws

@@ -1,7 +1,10 @@
 // The drawing layer: an action becomes records and a change of the drawing state, or a refusal.
 pub mod closing;
+pub mod finishing;
 pub mod operands;
+pub mod points;
 pub mod ranges;
+pub mod runs;
 pub mod tracing;
 
 use crate::closing::close;
