@@ -8,3 +8,4 @@ pub mod ActsLaws
 pub mod RunLaws
 pub mod PointLaws
 pub mod FinishLaws
+pub mod StrokeLaws

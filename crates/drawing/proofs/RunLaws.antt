@@ -4,10 +4,10 @@ use Prim.Native.Nat.{ℕ, zero, suc, _+_, _≤_, _<_}
 use native.Mathlib.Nat.{add-assoc, add-suc, add-zero}
 use native.Mathlib.Omega.{arith}
 use mathlib.Core.Path.{_≡_, refl, sym, ap, _∙_, subst}
-use mathlib.Core.Bool.{false}
+use mathlib.Core.Bool.{true, false}
 use mathlib.Core.List.{List, [], _∷_, _++_, append-nil}
 use lib.ListN.{length, getD, set, take, drop, length-set, length-drop}
-use lib.Seq.{take-suc, take-suc-set, getD-drop}
+use lib.Seq.{take-suc, take-suc-set, getD-drop, getD-take, length-take-le}
 use borrow.Author.Tests.{lt-ltb, le-ltb, ne-eqb}
 use Rattle.rules.specs.declared.Action.the-variants.{Data}
 use Rattle.rules.specs.declared.Drawing.{Drawing}
@@ -18,6 +18,8 @@ use Rattle.rules.specs.declared.Set.the-variants.{Pdi}
 use Rattle.rules.specs.Operands.{begun}
 use Rattle.rules.specs.Drawing.{rowOf, lengthOf, withOperand, Outcome, Draw, andThen, apply, nextOperand, roleDue, applyBegun, takeByte, dataByte, act}
 use Rattle.rules.proofs.Bools.{pick-yes, pick-no}
+use Rattle.coordinates.specs.Data.{allData}
+use Rattle.coordinates.proofs.WholeLaws.{data-range, all-at}
 use Rattle.figures.specs.Carried.{Carried, carry}
 use Rattle.figures.proofs.Carrying.{carry-none}
 use Rattle.drawing.specs.Run.{ActsAs, Run, more}
@@ -46,6 +48,15 @@ module _ (bytes : List ℕ) (place : ℕ) where
       ∙ ap (λ (xs : List ℕ). xs ++ (b ∷ [])) (joined-bytes old k (omega arith) (omega arith))
       ∙ ap (λ (c : ℕ). take k l ++ (c ∷ [])) (sym (getD-drop place bytes k 0))
       ∙ sym (take-suc l k 0 (omega (arith, length-drop place bytes)))
+
+-- What is told of bytes that are all data
+pub each-data : (bytes : List ℕ) (place l : ℕ) → place + l ≤ length bytes → allData (take l (drop place bytes)) ≡ true
+    → (k : ℕ) → k < l → (64 ≤ getD bytes (place + k) 0) × (getD bytes (place + k) 0 ≤ 127)
+each-data bytes place l h all k g =
+    let bs = take l (drop place bytes) in
+    let long : length bs ≡ l = length-take-le l (drop place bytes) (omega (arith, length-drop place bytes)) in
+    let here : getD bs k 0 ≡ getD bytes (place + k) 0 = getD-take l (drop place bytes) k 0 g ∙ getD-drop place bytes k 0 in
+    rw here at (data-range (getD bs k 0) (all-at bs k (omega arith) all))
 
 -- An operand of the bytes after a run's first n
 module _ (bytes : List ℕ) (from n : ℕ) (x : Carried) (d : Drawing) (at : ℕ) (out : List ℕ) (room : at + 120 ≤ length out) where

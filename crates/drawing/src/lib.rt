@@ -6,6 +6,7 @@ pub mod points;
 pub mod ranges;
 pub mod runs;
 pub mod tracing;
+pub mod strokes;
 
 use crate::closing::close;
 use crate::closing::opened;
