@@ -9,3 +9,4 @@ pub mod RunLaws
 pub mod PointLaws
 pub mod FinishLaws
 pub mod StrokeLaws
+pub mod PdiLaws
