@@ -1,6 +1,7 @@
 // The drawing layer: an action becomes records and a change of the drawing state, or a refusal.
 pub mod closing;
 pub mod operands;
+pub mod pdi;
 pub mod ranges;
 pub mod runs;
 pub mod strokes;
