@@ -1,4 +1,3 @@
-use mathlib.Core.Path.{_≡_}
 use borrow.Author.Tests.{not-false}
 use Rattle.coordinates.proofs.WholeLaws.{is-three}
 use Rattle.drawing.proofs.StrokeLaws.{tells-none, is-ready}
