@@ -3,6 +3,7 @@ pub mod closing;
 pub mod commands;
 pub mod finishing;
 pub mod operands;
+pub mod pdi;
 pub mod points;
 pub mod ranges;
 pub mod runs;
