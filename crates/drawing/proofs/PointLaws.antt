@@ -1,6 +1,6 @@
 -- Points that come whole, in a run.
 -- Assumes nothing.
-use Prim.Native.Nat.{ℕ, suc, _+_, _≤_, _<_}
+use Prim.Native.Nat.{ℕ, suc, _+_, _-_, _≤_, _<_}
 use native.Mathlib.Omega.{arith}
 use mathlib.Core.Path.{_≡_, refl, sym, ap, _∙_, subst}
 use mathlib.Core.Bool.{Bool, true, false, _||_}
@@ -30,7 +30,7 @@ use Rattle.coordinates.specs.declared.whole.Whole.the-variants.{Cut, Whole as W
 use Rattle.coordinates.specs.Data.{isData, allData, wholeOf}
 use Rattle.coordinates.proofs.WholeLaws.{data-range, all-at}
 use Rattle.figures.specs.Carried.{Carried, carry, drawingOf}
-use Rattle.drawing.specs.Run.{Run, standing}
+use Rattle.drawing.specs.Run.{Run, none, standing}
 use Rattle.drawing.specs.Tracing.{Inks, penAt, isPoint}
 use Rattle.drawing.proofs.RunLaws.{whole-operand}
 
@@ -167,7 +167,7 @@ module _ (bytes : List ℕ) (from n : ℕ) (x : Carried) (p : Point) (o : Operan
       (whole-operand bytes from n x (d o) at out room k (point-length role (c .vertices) (l .domain) h ∙ sym e) some (data-each bytes (from + n) k fit a) fit most zero (s .end) (s .records) (s .draws) run)
 
 -- The same with the names of a loop
-pub points-more : (bytes : List ℕ) (from n : ℕ) (x : Carried) (pen : Pen) (c : Command) (l : Look) (m : List ℕ) (at : ℕ) (out : List ℕ) (k : ℕ)
+points-more : (bytes : List ℕ) (from n : ℕ) (x : Carried) (pen : Pen) (c : Command) (l : Look) (m : List ℕ) (at : ℕ) (out : List ℕ) (k : ℕ)
     (row : Row) (role : Role) (three : Bool) (v q : Point) (c′ : Command) (at′ : ℕ) (out′ : List ℕ) (pen″ : Pen) (c″ : Command)
     → row ≡ rowOf (c .opcode) → role ≡ roleOf (row .pattern) (c .due) → isPoint role (c .vertices) ≡ true
     → at + 120 ≤ length out → k ≡ l .domain .multi → 1 ≤ k → k ≤ length (pen .operand .bytes)
@@ -183,3 +183,27 @@ points-more bytes from n x pen c l m at out k row role three v q c′ at′ out�
     λ a. t (take k (drop (from + n) bytes)) a (z .1 ∙ ap (λ (b : Bool). point b (take k (drop (from + n) bytes))) et) in
     rw (ep, ec, er)
     (point-run bytes from n x (pen .point) (pen .operand) c l m at out k room (rw (eo, er) at h) e some most fit zero (z .0) q c′ at′ out′ (rw (eo, er) at t′) run)
+
+-- The same at the place i
+pub points-on : (bytes : List ℕ) (from i : ℕ) (x : Carried) (pen : Pen) (c : Command) (l : Look) (m : List ℕ) (at : ℕ) (out : List ℕ) (k : ℕ)
+    (row : Row) (role : Role) (three : Bool) (v q : Point) (c′ : Command) (at′ : ℕ) (out′ : List ℕ) (pen″ : Pen) (c″ : Command)
+    → from ≤ i → row ≡ rowOf (c .opcode) → role ≡ roleOf (row .pattern) (c .due) → isPoint role (c .vertices) ≡ true
+    → at + 120 ≤ length out → k ≡ l .domain .multi → 1 ≤ k → k ≤ length (pen .operand .bytes)
+    → i + k ≤ length bytes → pen .operand .count ≡ 0
+    → three ≡ l .domain .three → wholeOf three (take k (drop i bytes)) ≡ Whole·point v
+    → ((bs : List ℕ) (a : Operand) → v ≡ point (l .domain .three) bs → standing (penAt q a) c′ l m at′ out′ ≡ carry (apply role row bs (drawingOf (penAt (pen .point) a) c l m)) (drawingOf (penAt (pen .point) a) c l m) at out)
+    → pen″ ≡ penAt q noOperand → c″ ≡ withDue (dueAfter (row .pattern) (c′ .due)) c′
+    → Run Pdi bytes from x (i - from) (standing pen c l m at out)
+    → Run Pdi bytes from x (i + k - from) (standing pen″ c″ l m at′ out′)
+points-on bytes from i x pen c l m at out k row role three v q c′ at′ out′ pen″ c″ g er eo h room e some most fit zero et w t ep ec run =
+    let here : i ≡ from + (i - from) = omega arith in
+    let next : (i - from) + k ≡ i + k - from = omega arith in
+    let w′ = subst (λ (j : ℕ). wholeOf three (take k (drop j bytes)) ≡ Whole·point v) here w in
+    subst (λ (j : ℕ). Run Pdi bytes from x j (standing pen″ c″ l m at′ out′)) next
+    (points-more bytes from (i - from) x pen c l m at out k row role three v q c′ at′ out′ pen″ c″ er eo h room e some most (omega arith) zero et w′ t ep ec run)
+
+-- None yet
+pub points-none : (bytes : List ℕ) (from : ℕ) (x : Carried) → Run Pdi bytes from x (from - from) x
+points-none bytes from x =
+    let e : 0 ≡ from - from = omega arith in
+    subst (λ (j : ℕ). Run Pdi bytes from x j x) e none

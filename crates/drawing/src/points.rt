@@ -83,27 +83,26 @@ pub fn trace_points(
     ensures ran { λ r. ⌜ ((l : Look) (m : List ℕ) → Inks ink pel l → n ≡ l .domain .multi → three ≡ l .domain .three → Run Set.Pdi (now (bytes .entry)) from (standing pen command l m at (now (out .entry))) (r .count) (standing (r .pen) (r .command) l m (r .at) (now (out .exit)))) ⌝ }
     ensures most { λ r. ⌜ (from + r .count ≤ to) × (r .at ≤ length (now (out .exit))) × (r .pen .operand .count ≡ 0) × (r .command .opcode ≡ command .opcode) ⌝ }
 {
-    let mut count: usize = 0;
+    let mut i = from;
     let mut at = at;
     let mut pen = pen;
     let mut command = command;
     loop {
         let role = role_due(row, command);
-        let place = from + count;
         let whole = point_due(
             role,
             command.vertices,
             n,
             three,
             bytes,
-            place,
+            i,
             to,
             out.len() - at,
         );
         match whole {
             Whole::Cut => {
                 return Ran {
-                    count,
+                    count: i - from,
                     at,
                     pen,
                     command,
@@ -115,7 +114,7 @@ pub fn trace_points(
                 at = t.at;
                 pen = resting(t.point);
                 command = with_due(row, t.command);
-                count += n;
+                i += n;
             }
         }
     }
