@@ -33,13 +33,13 @@ pub record Ready (kind : ℕ) (filled : Bool) (p : Pen) (c : Command) (l : Look)
   pub multi : l .domain .multi ≡ 3
   pub plane : l .domain .three ≡ false
   pub fresh : p .operand .count ≡ 0
-  pub long : length (p .operand .bytes) ≡ 8
 
--- n bytes of POINT SET from the point p₀, the last point q
+-- n bytes of POINT SET, the last point q; an operand has room for eight bytes
 abbrev pub Moves : List ℕ → ℕ → ℕ → Point → Type 0
 Moves bytes from n q =
     (filled : Bool) (p : Pen) (c : Command) (l : Look) (m : List ℕ) (at : ℕ) (out : List ℕ)
     → Ready 0 filled p c l
+    → length (p .operand .bytes) ≡ 8
     → at + roomForStep ≤ length out
     → Run Pdi bytes from (standing p c l m at out) n (standing (penAfter n p q) (commandAfter n c) l m at out)
 
@@ -48,6 +48,7 @@ abbrev pub Lines : List ℕ → ℕ → Head → Point → Point → ℕ → Lis
 Lines bytes from head pel p₀ at₀ out₀ n q at out =
     (filled : Bool) (p : Pen) (c : Command) (l : Look) (m : List ℕ)
     → Ready 2 filled p c l
+    → length (p .operand .bytes) ≡ 8
     → p .point ≡ p₀
     → ((a b s : Point) → headBytes head ≡ headOf (recordOf l 2 (flags filled false false) 0 0 a b s))
     → pel ≡ l .domain .pel

@@ -1,9 +1,11 @@
 -- Operands applied and commands finished by numbers: of a look, a run keeps what all its records have of it
-use Prim.Native.Nat.{ℕ}
+use Prim.Native.Nat.{ℕ, _+_, _≤_}
 use mathlib.Core.Bool.{Bool, true, false}
 use mathlib.Core.List.{List}
 use mathlib.Core.Path.{_≡_}
 use lib.Dec.{ltb}
+use Rattle.rules.specs.declared.Action.{Action}
+use Rattle.rules.specs.declared.Action.the-variants.{Control, Opcode}
 use Rattle.rules.specs.declared.Command.{Command}
 use Rattle.rules.specs.declared.Drawing.{Drawing}
 use Rattle.rules.specs.declared.Look.{Look}
@@ -14,13 +16,14 @@ use Rattle.rules.specs.declared.Role.{Role}
 use Rattle.rules.specs.declared.Role.the-variants.{MoveTo, DrawTo, DrawBy, Middle, ArcEnd, Start, Edge, Lengths, Pel, Foreground, Background, Shade, Dropped}
 use Rattle.rules.specs.Choice.{pick}
 use Rattle.rules.specs.Operands.{displaced, displacedOut}
-use Rattle.rules.specs.Record.{recordOf}
-use Rattle.rules.specs.Drawing.{Outcome, mostVertices}
+use Rattle.rules.specs.Record.{origin, recordOf}
+use Rattle.rules.specs.Drawing.{Outcome, opened, mostVertices}
 use Rattle.records.specs.declared.Head.{Head}
 use Rattle.records.specs.Bytes.{headOf, headBytes}
 use Rattle.figures.specs.Carried.{carryOut, drawingOf}
 use Rattle.drawing.specs.Run.{standing}
 use Rattle.drawing.specs.declared.tracing.Traced.{Traced}
+use Rattle.drawing.specs.declared.finishing.Finished.{Finished}
 
 -- The head of a look's records, their kind, flags, set and code not yet put in, and its pel
 pub record Inks (ink : Head) (pel : Point) (l : Look) : Type 0 where
@@ -36,6 +39,42 @@ TracesBy rule ink pel p c at out r out′ =
     (l : Look) (o : Operand) (m : List ℕ)
     → Inks ink pel l
     → standing (penAt (r .point) o) (r .command) l m (r .at) out′ ≡ carryOut rule (drawingOf (penAt p o) c l m) at out
+
+-- At most one record is written, and the command stays open
+abbrev pub Near : Command → ℕ → Traced → Type 0
+Near c at r = (r .at ≤ at + 40) × (r .command .opcode ≡ c .opcode)
+
+-- The same of a rule that leaves the command
+abbrev pub FinishesBy : (Drawing → Outcome) → Head → Point → Point → Command → ℕ → List ℕ → Finished → List ℕ → Type 0
+FinishesBy rule ink pel p c at out r out′ =
+    ((l : Look) (o : Operand) (m : List ℕ)
+    → Inks ink pel l
+    → standing (penAt (r .point) o) c l m (r .at) out′ ≡ carryOut rule (drawingOf (penAt p o) c l m) at out)
+    × (r .at ≤ at + 40)
+
+-- SELECT COLOUR with no operand, which finishes with another look
+unfoldable pub isForeground : Role → Bool
+isForeground MoveTo = false
+isForeground DrawTo = false
+isForeground DrawBy = false
+isForeground Middle = false
+isForeground ArcEnd = false
+isForeground Start = false
+isForeground Edge = false
+isForeground Lengths = false
+isForeground Pel = false
+isForeground Foreground = true
+isForeground Background = false
+isForeground Shade = false
+isForeground Dropped = false
+
+-- What a byte below 4/0 asks that no layer below drawing takes: a control, or an opcode
+abbrev pub asked : ℕ → Action
+asked b = pick (ltb b 32) (Control b) (Opcode b)
+
+-- The command that it leaves open
+abbrev pub nextOf : ℕ → Point → Command
+nextOf b p = pick (ltb b 32) (opened 0 origin) (opened b p)
 
 -- The operands that are counted from the drawing point
 unfoldable pub isRelative : Role → Bool

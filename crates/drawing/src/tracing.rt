@@ -23,7 +23,7 @@ ghost use Rattle.rules.specs.Drawing.{withStart, apply, drawFigure, arcTo, edge
 ghost use Rattle.records.specs.Bytes.{overwrite};
 ghost use Rattle.figures.specs.Carried.{carryOut, drawingOf};
 ghost use Rattle.drawing.specs.Run.{standing};
-ghost use Rattle.drawing.specs.Tracing.{Inks, penAt, TracesBy, isRelative, aim, strays, isPoint};
+ghost use Rattle.drawing.specs.Tracing.{Inks, penAt, TracesBy, Near, isRelative, aim, strays, isPoint};
 
 const MOST_VERTICES: u16 = 256;
 
@@ -111,7 +111,7 @@ fn stroke(
     at: usize,
 ) -> Traced
     requires { ⌜ at + 40 ≤ length (now out) ⌝ }
-    ensures { λ r. ⌜ TracesBy (drawFigure (row .kind) (row .filled) wrapped q) ink pel p command at (now (out .entry)) r (now (out .exit)) ⌝ }
+    ensures { λ r. ⌜ TracesBy (drawFigure (row .kind) (row .filled) wrapped q) ink pel p command at (now (out .entry)) r (now (out .exit)) × Near command at r ⌝ }
 {
     let kind = row.kind;
     let flags = flags(row.filled, wrapped, false);
@@ -179,9 +179,9 @@ pub fn put_arc(
     at: usize,
 )
     requires { ⌜ at + 40 ≤ length (now out) ⌝ }
-    ensures { λ _. ⌜ ((l : Look) → Inks ink pel l → now (out .exit) ≡ overwrite at (bytesOf (figure l 3 (flags filled wrapped false) (command .start) (command .middle) q)) (now (out .entry))) ⌝ }
+    ensures { λ _. ⌜ ((l : Look) → Inks ink pel l → now (out .exit) ≡ overwrite at (bytesOf (figure l 3 (flags filled (command .wrapped || wrapped) false) (command .start) (command .middle) q)) (now (out .entry))) ⌝ }
 {
-    let flags = flags(filled, wrapped, false);
+    let flags = flags(filled, either(command.wrapped, wrapped), false);
     let start = command.start;
     let middle = command.middle;
     put_figure(ink, 3, flags, start, middle, q, pel, out, at);
@@ -198,10 +198,9 @@ fn arc_end(
     at: usize,
 ) -> Traced
     requires { ⌜ at + 40 ≤ length (now out) ⌝ }
-    ensures { λ r. ⌜ ((p : Point) → TracesBy (arcTo filled wrapped q) ink pel p command at (now (out .entry)) r (now (out .exit))) ⌝ }
+    ensures { λ r. ⌜ ((p : Point) → TracesBy (arcTo filled wrapped q) ink pel p command at (now (out .entry)) r (now (out .exit))) × Near command at r ⌝ }
 {
-    let either = either(command.wrapped, wrapped);
-    put_arc(filled, either, q, command, ink, pel, out, at);
+    put_arc(filled, wrapped, q, command, ink, pel, out, at);
     Traced {
         at: at + 40,
         point: q,
@@ -221,7 +220,7 @@ fn edge(
     at: usize,
 ) -> Traced
     requires { ⌜ (command .vertices < 256) × (at + 40 ≤ length (now out)) ⌝ }
-    ensures { λ r. ⌜ ((v : Point) → q ≡ displaced p v → wrapped ≡ displacedOut p v → TracesBy (edgeBy filled v) ink pel p command at (now (out .entry)) r (now (out .exit))) ⌝ }
+    ensures { λ r. ⌜ ((v : Point) → q ≡ displaced p v → wrapped ≡ displacedOut p v → TracesBy (edgeBy filled v) ink pel p command at (now (out .entry)) r (now (out .exit))) × Near command at r ⌝ }
 {
     let flags = flags(filled, wrapped, false);
     put_figure(ink, 5, flags, p, q, ORIGIN, pel, out, at);
@@ -247,7 +246,7 @@ pub fn trace(
     at: usize,
 ) -> Traced
     requires { ⌜ (isPoint role (command .vertices) ≡ true) × (at + 40 ≤ length (now out)) ⌝ }
-    ensures { λ r. ⌜ ((bs : List ℕ) (l : Look) (o : Operand) (m : List ℕ) → Inks ink pel l → v ≡ point (l .domain .three) bs → standing (penAt (r .point) o) (r .command) l m (r .at) (now (out .exit)) ≡ carryOut (apply role row bs) (drawingOf (penAt p o) command l m) at (now (out .entry))) ⌝ }
+    ensures { λ r. ⌜ ((bs : List ℕ) (l : Look) (o : Operand) (m : List ℕ) → Inks ink pel l → v ≡ point (l .domain .three) bs → standing (penAt (r .point) o) (r .command) l m (r .at) (now (out .exit)) ≡ carryOut (apply role row bs) (drawingOf (penAt p o) command l m) at (now (out .entry))) × Near command at r ⌝ }
 {
     let t = target(role, p, v);
     let q = t.point;

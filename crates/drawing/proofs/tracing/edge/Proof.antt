@@ -1,3 +1,5 @@
+use mathlib.Core.Path.{refl}
+use native.Mathlib.Omega.{arith}
 use Rattle.drawing.proofs.TraceLaws.{wrote, edge-drawn}
 use borrow.Author.Needs.{needs}
 use Rattle.drawing.proofs.tracing.edge.Statement.{statement}
@@ -25,7 +27,7 @@ returns c =
     let put-figure· = c .before .before .before .put-figure in
     let flags· = c .before .before .before .before .before .flags in
     let pre· = c .before .before .before .before .before .before .before .pre in
-    λ v h w l o m k. wrote _ _ _ _ _ _ (put-figure· .ensures l k) (edge-drawn _ _ v _ o _ l m _ _ (flags· .ensures) h w (pre· .0))
+    (λ v h w l o m k. wrote _ _ _ _ _ _ (put-figure· .ensures l k) (edge-drawn _ _ v _ o _ l m _ _ (flags· .ensures) h w (pre· .0)), (omega arith, refl))
 
 pub edge-spec : {M : Type 1} → statement M
 edge-spec =

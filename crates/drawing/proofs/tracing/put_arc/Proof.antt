@@ -4,6 +4,9 @@ use Rattle.drawing.proofs.tracing.put_arc.Tie as tie
 use Rattle.drawing.proofs.tracing.put_figure.Reads as put-figure-reads
 use Rattle.records.proofs.flags.Reads as flags-reads
 
+either-requires : tie.Need-either-requires
+either-requires c κs = search needs
+
 flags-requires : tie.Need-flags-requires
 flags-requires c κs = search needs
 
@@ -17,7 +20,8 @@ returns : tie.Need-returns
 returns c =
     let flags· = c .before .before .before .before .before .before .flags in
     let put-figure· = c .before .before .put-figure in
-    λ l k. rw (← flags· .ensures) (put-figure· .ensures l k)
+    let either· = c .before .before .before .before .before .before .before .either in
+    λ l k. rw (← either· .ensures, ← flags· .ensures) (put-figure· .ensures l k)
 
 pub put-arc-spec : {M : Type 1} → statement M
-put-arc-spec = tie.close (tie.spec flags-requires put-figure-requires same-length returns)
+put-arc-spec = tie.close (tie.spec either-requires flags-requires put-figure-requires same-length returns)

@@ -1,3 +1,6 @@
+use mathlib.Core.Path.{refl}
+use native.Mathlib.Nat.{le-add-right}
+use native.Mathlib.Omega.{arith}
 use Rattle.drawing.proofs.TraceLaws.{wrote, wrote-none, stroke-point, stroke-line, stroke-corner, stroke-none}
 use borrow.Author.Needs.{needs}
 use Rattle.drawing.proofs.tracing.stroke.Statement.{statement}
@@ -22,7 +25,7 @@ returns c =
     let put-figure· = c .before .before .put-figure in
     let flags· = c .before .before .before .before .before .flags in
     let if1· = c .before .before .before .before .if1 in
-    λ l o m k. wrote _ _ _ _ _ _ (put-figure· .ensures l k) (stroke-point _ _ _ _ _ o _ l m _ (flags· .ensures) (if1· .taken))
+    (λ l o m k. wrote _ _ _ _ _ _ (put-figure· .ensures l k) (stroke-point _ _ _ _ _ o _ l m _ (flags· .ensures) (if1· .taken)), (omega arith, refl))
 
 put-figure-requires-2 : tie.Need-put-figure-requires-2
 put-figure-requires-2 c κs = search needs
@@ -39,7 +42,7 @@ returns-2 c =
     let flags· = c .before .before .before .before .before .before .flags in
     let if1· = c .before .before .before .before .before .if1 in
     let if2· = c .before .before .before .before .if2 in
-    λ l o m k. wrote _ _ _ _ _ _ (put-figure2· .ensures l k) (stroke-line _ _ _ _ _ o _ l m _ (flags· .ensures) (if1· .left) (if2· .taken))
+    (λ l o m k. wrote _ _ _ _ _ _ (put-figure2· .ensures l k) (stroke-line _ _ _ _ _ o _ l m _ (flags· .ensures) (if1· .left) (if2· .taken)), (omega arith, refl))
 
 put-figure-requires-3 : tie.Need-put-figure-requires-3
 put-figure-requires-3 c κs = search needs
@@ -57,14 +60,14 @@ returns-3 c =
     let if1· = c .before .before .before .before .before .before .if1 in
     let if2· = c .before .before .before .before .before .if2 in
     let if3· = c .before .before .before .before .if3 in
-    λ l o m k. wrote _ _ _ _ _ _ (put-figure3· .ensures l k) (stroke-corner _ _ _ _ _ o _ l m _ (flags· .ensures) (if1· .left) (if2· .left) (if3· .taken))
+    (λ l o m k. wrote _ _ _ _ _ _ (put-figure3· .ensures l k) (stroke-corner _ _ _ _ _ o _ l m _ (flags· .ensures) (if1· .left) (if2· .left) (if3· .taken)), (omega arith, refl))
 
 returns-4 : tie.Need-returns-4
 returns-4 c =
     let if1· = c .before .before .if1 in
     let if2· = c .before .if2 in
     let if3· = c .if3 in
-    λ l o m k. wrote-none _ _ _ _ (stroke-none _ _ _ _ _ o _ l m (if1· .left) (if2· .left) (if3· .left))
+    (λ l o m k. wrote-none _ _ _ _ (stroke-none _ _ _ _ _ o _ l m (if1· .left) (if2· .left) (if3· .left)), (le-add-right _ 40, refl))
 
 pub stroke-spec : {M : Type 1} → statement M
 stroke-spec =

@@ -1,3 +1,6 @@
+use mathlib.Core.Path.{refl, ap}
+use native.Mathlib.Nat.{le-add-right}
+use Rattle.rules.specs.declared.Command.{Command}
 use mathlib.Core.Path.{_∙_}
 use Rattle.drawing.proofs.TraceLaws.{wrote-none, by-rule, apply-move, apply-start, apply-middle, apply-arc, apply-edge, apply-stroke, edge-aim, edge-strays, edge-room}
 use borrow.Author.Needs.{needs}
@@ -50,21 +53,21 @@ returns : tie.Need-returns
 returns c =
     let target· = c .before .before .before .target in
     let enum-told· = c .enum-told in
-    λ bs l o m k e. wrote-none _ _ _ _ (apply-move _ _ bs _ _ _ o _ l m e (target· .ensures .0) (enum-told· .given .1))
+    (λ bs l o m k e. wrote-none _ _ _ _ (apply-move _ _ bs _ _ _ o _ l m e (target· .ensures .0) (enum-told· .given .1)), (le-add-right _ 40, refl))
 
 returns-2 : tie.Need-returns-2
 returns-2 c =
     let target· = c .before .before .before .before .target in
     let enum-told2· = c .before .enum-told2 in
     let with-start· = c .with-start in
-    λ bs l o m k e. wrote-none _ _ _ _ (apply-start _ _ bs _ _ _ o _ l m e (target· .ensures .0) (enum-told2· .given .1) _ (with-start· .ensures))
+    (λ bs l o m k e. wrote-none _ _ _ _ (apply-start _ _ bs _ _ _ o _ l m e (target· .ensures .0) (enum-told2· .given .1) _ (with-start· .ensures)), (le-add-right _ 40, ap (λ (x : Command). x .opcode) (with-start· .ensures)))
 
 returns-3 : tie.Need-returns-3
 returns-3 c =
     let target· = c .before .before .before .before .target in
     let enum-told3· = c .before .enum-told3 in
     let with-middle· = c .with-middle in
-    λ bs l o m k e. wrote-none _ _ _ _ (apply-middle _ _ bs _ _ _ o _ l m e (target· .ensures .0) _ (target· .ensures .1) (enum-told3· .given .1) _ (with-middle· .ensures))
+    (λ bs l o m k e. wrote-none _ _ _ _ (apply-middle _ _ bs _ _ _ o _ l m e (target· .ensures .0) _ (target· .ensures .1) (enum-told3· .given .1) _ (with-middle· .ensures)), (le-add-right _ 40, ap (λ (x : Command). x .opcode) (with-middle· .ensures)))
 
 same-length : tie.Need-same-length
 same-length c = search needs
@@ -74,7 +77,7 @@ returns-4 c =
     let arc-end· = c .before .before .arc-end in
     let target· = c .before .before .before .before .before .before .before .target in
     let enum-told4· = c .before .before .before .before .enum-told4 in
-    λ bs l o m k e. by-rule _ _ _ (arc-end· .ensures _ l o m k) (apply-arc _ _ bs _ _ _ o _ l m e (target· .ensures .0) _ (target· .ensures .1) (enum-told4· .given .1))
+    (λ bs l o m k e. by-rule _ _ _ (arc-end· .ensures .0 _ l o m k) (apply-arc _ _ bs _ _ _ o _ l m e (target· .ensures .0) _ (target· .ensures .1) (enum-told4· .given .1)), arc-end· .ensures .1)
 
 same-length-2 : tie.Need-same-length-2
 same-length-2 c = search needs
@@ -85,7 +88,7 @@ returns-5 c =
     let edge· = c .before .before .edge in
     let target· = c .before .before .before .before .before .before .before .target in
     let t = enum-told5· .given .1 in
-    λ bs l o m k e. by-rule _ _ _ (edge· .ensures _ (target· .ensures .0 ∙ edge-aim _ _ _ t) (target· .ensures .1 ∙ edge-strays _ _ _ t) l o m k) (apply-edge _ _ bs _ _ _ o _ l m e (target· .ensures .0) t)
+    (λ bs l o m k e. by-rule _ _ _ (edge· .ensures .0 _ (target· .ensures .0 ∙ edge-aim _ _ _ t) (target· .ensures .1 ∙ edge-strays _ _ _ t) l o m k) (apply-edge _ _ bs _ _ _ o _ l m e (target· .ensures .0) t), edge· .ensures .1)
 
 same-length-3 : tie.Need-same-length-3
 same-length-3 c = search needs
@@ -96,7 +99,7 @@ returns-6 c =
     let target· = c .before .before .before .before .before .before .target in
     let match· = c .before .before .before .before .match in
     let pre· = c .before .before .before .before .before .before .before .before .pre in
-    λ bs l o m k e. by-rule _ _ _ (stroke· .ensures l o m k) (apply-stroke _ _ bs _ _ _ o _ l m e (target· .ensures .0) _ (target· .ensures .1) (match· .keys6) (pre· .0))
+    (λ bs l o m k e. by-rule _ _ _ (stroke· .ensures .0 l o m k) (apply-stroke _ _ bs _ _ _ o _ l m e (target· .ensures .0) _ (target· .ensures .1) (match· .keys6) (pre· .0)), stroke· .ensures .1)
 
 pub trace-spec : {M : Type 1} → statement M
 trace-spec =
