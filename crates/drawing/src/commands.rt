@@ -23,6 +23,11 @@ ghost use Rattle.drawing.specs.Tracing.{isForeground, asked};
 
 const ROOM_FOR_STEP: usize = 120;
 
+// POINT SET and LINE, absolute: their points have a loop of their own, which begins where they are open.
+fn is_stroke(opcode: u8) -> bool {
+    opcode == 36 || opcode == 40
+}
+
 // Whether the byte at a place opens a command, with room for a step, and the one that is open leaves the look.
 fn opens(role: Role, bytes: &[u8], place: usize, to: usize, room: usize) -> bool
     requires { ⌜ to ≤ length (now bytes) ⌝ }
@@ -39,6 +44,9 @@ fn opens(role: Role, bytes: &[u8], place: usize, to: usize, room: usize) -> bool
     }
     let byte = bytes[place];
     if byte < 32 {
+        return false;
+    }
+    if is_stroke(byte) {
         return false;
     }
     byte < 64

@@ -7,9 +7,8 @@ pub mod pdi;
 pub mod points;
 pub mod ranges;
 pub mod runs;
-pub mod text;
-pub mod tracing;
 pub mod strokes;
+pub mod text;
 pub mod tracing;
 
 use crate::closing::close;

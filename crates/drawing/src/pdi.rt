@@ -1,4 +1,5 @@
 // A run of the PDI set: operands that come whole.
+use crate::commands::run_commands;
 use crate::operands::rested;
 use crate::runs::Ran;
 use crate::strokes::lines;
@@ -177,7 +178,28 @@ fn operands(
     }
 }
 
-// As many bytes as come in whole operands of the open command; the ordinary step does the rest.
+// Whether the bytes begin with data of POINT SET or LINE, absolute.
+fn begin_with_stroke(row: Row, look: Look, bytes: &[u8], from: usize, to: usize) -> bool
+    requires { ⌜ to ≤ length (now bytes) ⌝ }
+{
+    if to <= from {
+        return false;
+    }
+    if bytes[from] < 64 {
+        return false;
+    }
+    let domain = look.domain;
+    if !has_three(domain.multi as usize, domain.three) {
+        return false;
+    }
+    let pattern = row.pattern;
+    match pattern {
+        Pattern::A => row.kind == 0 || row.kind == 2,
+        _ => false,
+    }
+}
+
+// As many bytes as come in whole operands and opcodes; the ordinary step does the rest.
 pub fn run_pdi(
     pen: Pen,
     command: Command,
@@ -193,5 +215,8 @@ pub fn run_pdi(
     ensures most { λ r. ⌜ from + r .count ≤ to ⌝ }
 {
     let row = row_of(command.opcode);
-    operands(row, pen, command, look, bytes, from, to, out, at)
+    if begin_with_stroke(row, look, bytes, from, to) {
+        return operands(row, pen, command, look, bytes, from, to, out, at);
+    }
+    run_commands(pen, command, look, bytes, from, to, out, at)
 }

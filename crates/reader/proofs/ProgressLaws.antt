@@ -15,6 +15,8 @@ use Rattle.rules.specs.declared.Drawing.{Drawing}
 use Rattle.rules.specs.declared.Look.{Look}
 use Rattle.rules.specs.declared.Pen.{Pen}
 use Rattle.rules.specs.declared.Set.{Set}
+use Rattle.rules.specs.declared.Sets.{Sets}
+use Rattle.rules.specs.declared.Waiting.{Waiting}
 use Rattle.rules.specs.declared.Set.the-variants.{Macro}
 use Rattle.rules.specs.declared.Waiting.the-variants.{Nothing}
 use Rattle.rules.specs.Bodies.{bodyAt, depthLeft}
@@ -34,7 +36,7 @@ use Rattle.coding.specs.Idle.{Idle, coded}
 use Rattle.coding.specs.declared.idle.Idled.{Idled}
 use Rattle.reader.specs.declared.step.Progress.{Progress}
 use Rattle.reader.specs.View.{atDepth}
-use Rattle.reader.specs.Walk.{Place, placeAt, Walk, none, removed, ranOn, codedOn}
+use Rattle.reader.specs.Walk.{Place, placeAt, Walk, none, removed, placeAfter, ranOn, codedOn}
 use Rattle.reader.proofs.TurnLaws.{spent-removed}
 use Rattle.reader.proofs.RunLaws.{run-walk, piece-feeds, body-feeds, idle-walk, calls-walk}
 
@@ -108,6 +110,37 @@ valid-domain g h = and-left (domainFits (g .look .domain)) _ h
 pub valid-command : (g : Drawing) → drawingFits g ≡ true → commandFits (g .command) ≡ true
 unfolding drawingFits
 valid-command g h = and-left (commandFits (g .command)) _ (and-right (colourFits (g .look .colour)) _ (and-right (domainFits (g .look .domain)) _ h))
+
+-- At most the steps to an end of the piece
+pub coded-most : (p : Progress) (to n d : ℕ) (s : Sets) (x : Waiting) (r : Progress) → r ≡ codedOn n d s x p → p .at + n ≤ to → r .steps - p .steps ≤ to - p .at
+coded-most p to n d s x r e h = rw e (omega arith)
+
+-- The place of the piece after a run
+pub after-piece : (p : Progress) (n : ℕ) → p .depth ≡ 0 → (T : ℕ → Type 0) → T (p .at + n) → T (placeAfter (p .depth) n (p .at))
+after-piece p n d T t = rw d t
+
+pub placed-piece : (d n at : ℕ) → d ≡ 0 → at + n ≡ placeAfter d n at
+placed-piece d n at h = rw h
+
+pub after-body : (d n at : ℕ) → (d ≡ 0 → ⊥) → placeAfter d n at ≡ at
+after-body zero n at h = absurd (h refl)
+after-body (suc i) n at h = refl
+
+after-same : (d at : ℕ) → placeAfter d 0 at ≡ at
+after-same zero at = add-zero at
+after-same (suc i) at = refl
+
+-- No byte is drawn
+pub none-drawn-walk : (budget : ℕ) (p : Progress) (cells places firsts : List ℕ) (pen : Pen) (command : Command) (look : Look) (map st piece out : List ℕ)
+    → (r : Ran) → r ≡ record { count = 0; at = p .written; pen = pen; command = command }
+    → Walk piece (placeAt budget p cells places firsts (drawingOf pen command look map) st out)
+    (placeAt budget (ranOn (placeAfter (p .depth) (r .count) (p .at)) r p) cells places firsts (drawingOf (r .pen) (r .command) look map) st out)
+none-drawn-walk budget p cells places firsts pen command look map st piece out r e =
+    rw (e, after-same (p .depth) (p .at), add-zero (p .steps)) none
+
+pub none-drawn-most : (p : Progress) (budget : ℕ) (pen : Pen) (command : Command) (r : Ran) → r ≡ record { count = 0; at = p .written; pen = pen; command = command }
+    → (n : ℕ) → p .at ≤ n → (r .count ≤ budget - p .steps) × (placeAfter (p .depth) (r .count) (p .at) ≤ n)
+none-drawn-most p budget pen command r e n h = rw (e, after-same (p .depth) (p .at)) (omega arith, h)
 
 -- The bytes read of a cell, with its place
 pub counted : (place from end to n : ℕ) → (from < end → place + end ≤ from + mostBytes) → to ≤ end → from + n ≤ to → place < 256 → (place + n < 256) × (n < 256)

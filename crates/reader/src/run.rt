@@ -128,7 +128,17 @@ fn draw_set(
 {
     match set {
         Set::Pdi => draw_pdi(pen, command, look, bytes, from, to, out, at),
-        Set::Characters(repertoire) => draw_text(repertoire, pen, command, look, bytes, from, to, out, at),
+        Set::Characters(repertoire) => draw_text(
+            repertoire,
+            pen,
+            command,
+            look,
+            bytes,
+            from,
+            to,
+            out,
+            at,
+        ),
         Set::Macro => none_drawn(pen, command, at),
     }
 }
@@ -150,7 +160,17 @@ fn draw_piece(
 {
     let at = progress.at;
     let to = reach(at, piece.len(), budget, progress.steps);
-    draw_set(set, pen, command, look, piece, at, to, out, progress.written)
+    draw_set(
+        set,
+        pen,
+        command,
+        look,
+        piece,
+        at,
+        to,
+        out,
+        progress.written,
+    )
 }
 
 // Bytes of the innermost body, as far as its cell holds them.
@@ -174,9 +194,27 @@ fn draw_body(
     let cursor = body_at(cells, places, index);
     let stretch = stretch_of(store, cursor);
     let to = reach(stretch.from, stretch.to, budget, progress.steps);
-    let ran = draw_set(set, pen, command, look, store, stretch.from, to, out, progress.written);
+    let ran = draw_set(
+        set,
+        pen,
+        command,
+        look,
+        store,
+        stretch.from,
+        to,
+        out,
+        progress.written,
+    );
     let place = cursor.place + (ran.count as u8);
-    set_body(cells, places, index, Cursor { cell: cursor.cell, place });
+    set_body(
+        cells,
+        places,
+        index,
+        Cursor {
+            cell: cursor.cell,
+            place,
+        },
+    );
     ran
 }
 
@@ -196,6 +234,7 @@ pub fn run_drawn(
     requires { ⌜ (Fit progress (now store) (now piece) (now out)) × (domainFits (look .domain) ≡ true) × (commandFits command ≡ true) ⌝ }
     ensures walk { λ r. ⌜ ((firsts map : List ℕ) → Walk (now (piece .entry)) (placeAt budget progress (now (cells .entry)) (now (places .entry)) firsts (drawingOf pen command look map) (now (store .entry)) (now (out .entry))) (placeAt budget (ranOn (placeAfter (progress .depth) (r .count) (progress .at)) r progress) (now (cells .exit)) (now (places .exit)) firsts (drawingOf (r .pen) (r .command) look map) (now (store .entry)) (now (out .exit)))) ⌝ }
     ensures most { λ r. ⌜ (r .count ≤ budget - progress .steps) × (placeAfter (progress .depth) (r .count) (progress .at) ≤ length (now (piece .entry))) ⌝ }
+    ensures steps { λ r. ⌜ progress .steps + r .count ≤ 4294967295 ⌝ }
 {
     let waiting = progress.waiting;
     if !awaits_nothing(waiting) {
@@ -207,7 +246,18 @@ pub fn run_drawn(
     if progress.depth == 0 {
         return draw_piece(set, progress, pen, command, look, budget, piece, out);
     }
-    draw_body(set, progress, pen, command, look, budget, cells, places, store, out)
+    draw_body(
+        set,
+        progress,
+        pen,
+        command,
+        look,
+        budget,
+        cells,
+        places,
+        store,
+        out,
+    )
 }
 
 // The progress after a run of bytes that are drawn.
@@ -328,11 +378,11 @@ pub fn run_coded(
     ensures walk { λ r. ⌜ ((d : Drawing) (out : List ℕ) → free ≡ length out - progress .written → Walk (now (piece .entry)) (placeAt budget progress (now (cells .entry)) (now (places .entry)) (now (firsts .entry)) d (now (store .entry)) out) (placeAt budget r (now (cells .exit)) (now (places .exit)) (now (firsts .exit)) d (now (store .exit)) out)) ⌝ }
     ensures most { λ r. ⌜ r .steps - progress .steps ≤ budget - progress .steps ⌝ }
 {
-    let at = progress.at;
-    let to = reach(at, piece.len(), budget, progress.steps);
     if progress.depth != 0 {
         return progress;
     }
+    let at = progress.at;
+    let to = reach(at, piece.len(), budget, progress.steps);
     if to <= at {
         return progress;
     }

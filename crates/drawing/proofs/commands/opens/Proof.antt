@@ -24,13 +24,19 @@ shared-slice-read-byte c = search needs
 returns-4 : tie.Need-returns-4
 returns-4 c = λ h. false-true h
 
+is-stroke-requires : tie.Need-is-stroke-requires
+is-stroke-requires c κs = search needs
+
 returns-5 : tie.Need-returns-5
-returns-5 c =
-    let if1· = c .before .before .before .before .before .if1 in
-    let if2· = c .before .before .before .before .if2 in
-    let is-foreground· = c .before .before .before .is-foreground in
-    let if3· = c .before .before .if3 in
-    let if4· = c .if4 in
+returns-5 c = λ h. false-true h
+
+returns-6 : tie.Need-returns-6
+returns-6 c =
+    let if1· = c .before .before .before .before .before .before .before .if1 in
+    let if2· = c .before .before .before .before .before .before .if2 in
+    let is-foreground· = c .before .before .before .before .before .is-foreground in
+    let if3· = c .before .before .before .before .if3 in
+    let if4· = c .before .before .if4 in
     λ h. (if1· .left, if2· .left, sym (is-foreground· .ensures) ∙ if3· .left, opcode-asked _ (if4· .left) (ltb-true _ 64 h))
 
 pub opens-spec : {M : Type 1} → statement M
@@ -43,4 +49,6 @@ opens-spec =
     returns-3
     shared-slice-read-byte
     returns-4
-    returns-5)
+    is-stroke-requires
+    returns-5
+    returns-6)
