@@ -1,12 +1,14 @@
 -- Laws of the stack of bodies.
 -- Assumes nothing.
-use mathlib.Core.Path.{_≡_, refl, sym, ap, _∙_}
+use mathlib.Core.Path.{_≡_, refl, sym, ap, _∙_, subst}
 use mathlib.Core.Bool.{Bool, true, false}
 use mathlib.Core.List.{List}
 use Prim.Native.Nat.{ℕ, zero, suc, _+_, _-_, _<_, _≤_}
 use native.Mathlib.Nat.{not-suc-le-zero}
 use native.Mathlib.Numerals.{add-one, sub-one}
-use borrow.Author.Tests.{le-leb, lt-leb}
+use native.Mathlib.Omega.{arith}
+use lib.Dec.{ltb}
+use borrow.Author.Tests.{le-leb, lt-leb, ltb-true, ltb-false}
 use lib.ListN.{length, getD, set, drop, drop-of-length-le}
 use lib.Seq.{drop-cons}
 use Rattle.rules.specs.declared.Bodies.{Bodies}
@@ -16,6 +18,7 @@ use Rattle.rules.specs.Bodies.{bodyAt, withBody, hasLeft, depthLeft, pushed}
 use Rattle.rules.specs.Ranges.{placesFit}
 use Rattle.rules.proofs.Bools.{pick-yes, pick-no}
 use Rattle.bodies.specs.Stack.{bodiesOf}
+use Rattle.bodies.specs.Calls.{NamesEmpty, CallsEmpty}
 
 -- What `set_body` leaves is the rules' stack with that body, at any depth
 pub set-is-with : (d e i c p : ℕ) (cells places : List ℕ) → bodiesOf d (set cells i c) (set places i p) ≡ withBody d i (record { cell = c; place = p }) (bodiesOf e cells places)
@@ -60,3 +63,14 @@ module _ (ps : List ℕ) (i : ℕ) (h : i < length ps) where
 pub fit-end : (ps : List ℕ) (i : ℕ) → length ps ≤ i → placesFit (drop i ps) ≡ true
 unfolding placesFit
 fit-end ps i h = rw (drop-of-length-le ps {i = i} h)
+
+-- Calls of empty bodies: one more
+pub calls-more : (firsts bytes : List ℕ) (from n : ℕ) → CallsEmpty firsts bytes from n → NamesEmpty firsts (getD bytes (from + n) 0) → CallsEmpty firsts bytes from (n + 1)
+calls-more firsts bytes from n h e i l = by (ltb i n) refl
+  where
+    by : (t : Bool) → ltb i n ≡ t → NamesEmpty firsts (getD bytes (from + i) 0)
+    by true q = h i (ltb-true i n q)
+    by false q =
+        let k = ltb-false i n q in
+        let same : n ≡ i = omega arith in
+        subst (λ (m : ℕ). NamesEmpty firsts (getD bytes (from + m) 0)) same e

@@ -1,4 +1,6 @@
 // The stack of running macro bodies, outermost first, lent as two arrays beside the depth.
+pub mod calls;
+
 use macros::cells::MOST_BYTES;
 use macros::cursors::has_left;
 use macros::cursors::read_body;
@@ -7,7 +9,7 @@ use rules::Read;
 ghost use mathlib.Core.Path.{_≡_};
 ghost use mathlib.Core.List.{List};
 ghost use Prim.Native.Nat.{ℕ, _-_, _<_, _≤_};
-ghost use lib.ListN.{set};
+ghost use lib.ListN.{length, set};
 ghost use Rattle.rules.specs.Bodies.{bodyAt, depthLeft, bytesLeft, readBody};
 ghost use Rattle.rules.specs.Ranges.{placesFit, bodiesFit};
 ghost use Rattle.macros.specs.Lent.{Sized};
@@ -15,10 +17,12 @@ ghost use Rattle.bodies.specs.Stack.{bodiesOf};
 
 pub const MOST_DEPTH: u8 = 8;
 
-fn body_at(cells: &[u8; 8], places: &[u8; 8], index: u8) -> Cursor
+pub fn body_at(cells: &[u8; 8], places: &[u8; 8], index: u8) -> Cursor
     requires { ⌜ index < 8 ⌝ }
-    ensures { λ r. ⌜ ((d : ℕ) → r ≡ bodyAt (bodiesOf d (now (cells .entry)) (now (places .entry))) index) ⌝ }
+    ensures rule { λ r. ⌜ ((d : ℕ) → r ≡ bodyAt (bodiesOf d (now (cells .entry)) (now (places .entry))) index) ⌝ }
+    ensures held { λ _. ⌜ index < length (now (places .entry)) ⌝ }
 {
+    let places: &[u8] = places;
     Cursor {
         cell: cells[index as usize],
         place: places[index as usize],

@@ -2,3 +2,4 @@ pub mod Answers
 pub mod DefinitionLaws
 pub mod ReactLaws
 pub mod EffectLaws
+pub mod IdleLaws

@@ -2,6 +2,7 @@
 pub mod characters;
 pub mod definitions;
 pub mod escapes;
+pub mod idle;
 pub mod ranges;
 pub mod reactions;
 

@@ -1,3 +1,4 @@
 pub mod Sums
 pub mod Bits
 pub mod Operands
+pub mod WholeLaws

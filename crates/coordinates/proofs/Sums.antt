@@ -1,13 +1,13 @@
 -- The code's test on patterns is the rule's test on signed numbers, by the signs of the summands; and a sum in range is exact
 use mathlib.Core.Path.{_≡_, refl, sym, ap, _∙_}
 use mathlib.Core.Bool.{Bool, true, false, not, cond, _&&_}
-use Prim.Native.Nat.{ℕ, suc, _+_, _-_, _^_, _≤_, _<_}
+use Prim.Native.Nat.{ℕ, suc, _+_, _-_, _/_, _^_, _≤_, _<_}
 use native.Mathlib.Omega.{arith}
-use borrow.Author.Tests.{lt-ltb, le-ltb, le-leb, lt-leb, ltb-true, ltb-false, leb-true, leb-false}
-use lib.Dec.{ltb, leb}
+use borrow.Author.Tests.{lt-ltb, le-ltb, le-leb, lt-leb, ltb-true, ltb-false, leb-true, leb-false, eq-eqb, ne-eqb}
+use lib.Dec.{ltb, leb, eqb}
 use lib.IntN.{pos, negsuc, subℕ, _+ℤ_, +ℤ-comm}
 use Rattle.rules.specs.Operands.{signed, inRange, wrappedSum, leavesRange}
-use Rattle.rules.proofs.Bools.{by-truth}
+use Rattle.rules.proofs.Bools.{by-test, by-truth}
 
 -- The numbers of the low patterns, and of the high ones
 low : (a : ℕ) → a < 2 ^ 31 → signed a ≡ pos a
@@ -53,6 +53,43 @@ module _ (a b s : ℕ) (fa : a < 2 ^ 32) (fb : b < 2 ^ 32) (e : s ≡ wrappedSum
   pub high-low : 2 ^ 31 ≤ a → b < 2 ^ 31 → false ≡ leavesRange a b
   unfolding leavesRange
   high-low p q = rw (high a p fa, low b q) (ap not (sym (apart b (suc (2 ^ 32 - suc a)) q (omega arith))))
+
+-- The same by the code's tests: unlike signs never leave the range, of like signs the sum's sign tells
+module _ (a b s : ℕ) (fa : a < 2 ^ 32) (fb : b < 2 ^ 32) (e : s ≡ wrappedSum a b) where
+  pub unlike : (a / 2 ^ 31 ≡ b / 2 ^ 31 → ⊥) → false ≡ leavesRange a b
+  unlike h = by-test (ltb a (2 ^ 31)) below above
+    where
+      below : ltb a (2 ^ 31) ≡ true → false ≡ leavesRange a b
+      below t =
+          let p = ltb-true a (2 ^ 31) t in
+          by-test (ltb b (2 ^ 31))
+          (λ u. let q = ltb-true b (2 ^ 31) u in absurd (h (omega arith)))
+          (λ u. low-high a b s fa fb e p (ltb-false b (2 ^ 31) u))
+
+      above : ltb a (2 ^ 31) ≡ false → false ≡ leavesRange a b
+      above t =
+          let p = ltb-false a (2 ^ 31) t in
+          by-test (ltb b (2 ^ 31))
+          (λ u. high-low a b s fa fb e p (ltb-true b (2 ^ 31) u))
+          (λ u. let q = ltb-false b (2 ^ 31) u in absurd (h (omega arith)))
+
+  pub like : a / 2 ^ 31 ≡ b / 2 ^ 31 → not (eqb (s / 2 ^ 31) (a / 2 ^ 31)) ≡ leavesRange a b
+  unfolding wrappedSum
+  like h = by-test (ltb a (2 ^ 31)) below above
+    where
+      below : ltb a (2 ^ 31) ≡ true → not (eqb (s / 2 ^ 31) (a / 2 ^ 31)) ≡ leavesRange a b
+      below t =
+          let p = ltb-true a (2 ^ 31) t in
+          by-test (leb (2 ^ 31) s)
+          (λ u. let q = leb-true (2 ^ 31) s u in ap not (ne-eqb (s / 2 ^ 31) (a / 2 ^ 31) (λ z. absurd (omega arith))) ∙ sym u ∙ low-low a b s fa fb e p (omega arith))
+          (λ u. let q = leb-false (2 ^ 31) s u in ap not (eq-eqb (s / 2 ^ 31) (a / 2 ^ 31) (omega arith)) ∙ sym u ∙ low-low a b s fa fb e p (omega arith))
+
+      above : ltb a (2 ^ 31) ≡ false → not (eqb (s / 2 ^ 31) (a / 2 ^ 31)) ≡ leavesRange a b
+      above t =
+          let p = ltb-false a (2 ^ 31) t in
+          by-test (ltb s (2 ^ 31))
+          (λ u. let q = ltb-true s (2 ^ 31) u in ap not (ne-eqb (s / 2 ^ 31) (a / 2 ^ 31) (λ z. absurd (omega arith))) ∙ sym u ∙ high-high a b s fa fb e p (omega arith))
+          (λ u. let q = ltb-false s (2 ^ 31) u in ap not (eq-eqb (s / 2 ^ 31) (a / 2 ^ 31) (omega arith)) ∙ sym u ∙ high-high a b s fa fb e p (omega arith))
 
 -- Unlike signs: the patterns' sum wraps exactly where the numbers' sum is not negative
 mixed : (a b s : ℕ) → s ≡ wrappedSum a b → a < 2 ^ 31 → 2 ^ 31 ≤ b → b < 2 ^ 32 → signed s ≡ signed a +ℤ signed b

@@ -1,4 +1,6 @@
 // Coordinates of 32 bits: sums that wrap, and what the bytes of an operand stand for.
+pub mod whole;
+
 ghost use mathlib.Core.Path.{_≡_};
 ghost use Prim.Native.Nat.{_+_, _*_, _%_, _^_, _<_, _≤_};
 ghost use lib.ListN.{length, getD};
@@ -36,11 +38,7 @@ fn leaves_range(a: u32, b: u32, sum: u32) -> bool
     requires { ⌜ sum ≡ wrappedSum a b ⌝ }
     ensures { λ r. ⌜ r ≡ leavesRange a b ⌝ }
 {
-    if a < NEGATIVE {
-        if b < NEGATIVE { sum >= NEGATIVE } else { false }
-    } else {
-        if b < NEGATIVE { false } else { sum < NEGATIVE }
-    }
+    a / NEGATIVE == b / NEGATIVE && sum / NEGATIVE != a / NEGATIVE
 }
 
 pub fn add(a: u32, b: u32) -> Sum

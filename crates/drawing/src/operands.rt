@@ -15,7 +15,7 @@ ghost use mathlib.Core.Path.{_≡_};
 ghost use mathlib.Core.List.{[]};
 ghost use Prim.Native.Nat.{suc, _+_, _<_, _≤_};
 ghost use lib.ListN.{length, set};
-ghost use Rattle.rules.specs.Drawing.{roleOf, noOperand, Draw, nextOperand, applyBegun, dataByte};
+ghost use Rattle.rules.specs.Drawing.{roleOf, dueAfter, withDue, noOperand, Draw, nextOperand, applyBegun, dataByte};
 ghost use Rattle.figures.specs.Carried.{carryOut, drawingOf, carriedOf, ChangesBy};
 
 // The drawing point kept, no operand begun.
@@ -39,24 +39,30 @@ pub fn role_due(row: Row, command: Command) -> Role
     role_of(pattern, due)
 }
 
-// The next operand is due, none of it begun.
-fn next_operand(row: Row, pen: Pen, command: Command, look: Look, at: usize) -> Drawn
-    ensures { λ r. ⌜ ChangesBy (λ d. Draw (nextOperand (row .pattern) d) []) pen command look at r ⌝ }
+// The command with its next operand due.
+pub fn with_due(row: Row, command: Command) -> Command
+    ensures { λ r. ⌜ r ≡ withDue (dueAfter (row .pattern) (command .due)) command ⌝ }
 {
     let pattern = row.pattern;
     let due = command.due;
     let due = due_after(pattern, due);
     let start = command.start;
     let middle = command.middle;
-    let next = Command {
+    Command {
         opcode: command.opcode,
         due,
         vertices: command.vertices,
         start,
         middle,
         wrapped: command.wrapped,
-    };
-    no_record(rested(pen), next, look, at)
+    }
+}
+
+// The next operand is due, none of it begun.
+fn next_operand(row: Row, pen: Pen, command: Command, look: Look, at: usize) -> Drawn
+    ensures { λ r. ⌜ ChangesBy (λ d. Draw (nextOperand (row .pattern) d) []) pen command look at r ⌝ }
+{
+    no_record(rested(pen), with_due(row, command), look, at)
 }
 
 // Applies the operand that is begun.

@@ -9,10 +9,14 @@ use lib.ListN.{length, getD, replicate, length-set, length-append, getD-replicat
 use lib.Seq.{getD-set-same, getD-set-other}
 use Rattle.rules.specs.Store.{nextOf, setNext, countOf, setCount, goodCount, setBodyByte, linked, freshStore}
 use Rattle.rules.proofs.Lists.{getD-past}
-use Rattle.rules.proofs.Spans.{inside, most}
+use Rattle.rules.proofs.Spans.{inside, least, most}
 use Rattle.macros.specs.Lent.{Sized}
 
 -- A good count is from 1 to 30
+pub good-least : (n : ℕ) → goodCount n ≡ true → 1 ≤ n
+unfolding goodCount
+good-least n = least 1 n 30
+
 pub good-most : (n : ℕ) → goodCount n ≡ true → n ≤ 30
 unfolding goodCount
 good-most n = most 1 n 30

@@ -2,3 +2,5 @@ pub mod CellLaws
 pub mod ChainLaws
 pub mod StoringLaws
 pub mod EscapeLaws
+pub mod RunLaws
+pub mod StretchLaws

@@ -1,13 +1,17 @@
 // One cell of the store. Only this file knows where the parts of a cell lie.
 ghost use mathlib.Core.Path.{_≡_};
-ghost use Prim.Native.Nat.{_<_};
+ghost use Prim.Native.Nat.{_+_, _*_, _-_, _<_, _≤_};
+ghost use lib.ListN.{length};
 ghost use Rattle.rules.specs.Store.{nextOf, setNext, countOf, setCount, mostBytes, goodCount, bodyByte, setBodyByte};
 ghost use Rattle.macros.specs.Lent.{Sized};
+ghost use Rattle.macros.specs.Runs.{Laid};
 
 // The bytes of a cell: the next cell, the count, and the body bytes.
 pub const CELL_SIZE: usize = 32;
 
 pub const MOST_BYTES: u8 = 30;
+
+const ESC: u8 = 27;
 
 // The next cell, 0 at the end of a chain. Of cell 0: the front of the free chain.
 pub fn next_of(store: &[u8], cell: u8) -> u8
@@ -46,6 +50,14 @@ pub fn good_count(count: u8) -> bool
     1 <= count && count <= MOST_BYTES
 }
 
+// Where a body byte lies in the store.
+pub fn place_in_store(cell: u8, place: u8) -> usize
+    requires { ⌜ place ≤ mostBytes ⌝ }
+    ensures { λ r. ⌜ r ≡ 32 * cell + 2 + place ⌝ }
+{
+    CELL_SIZE * (cell as usize) + 2 + (place as usize)
+}
+
 pub fn body_byte(store: &[u8], cell: u8, place: u8) -> u8
     requires { ⌜ (Sized (now store)) × (place < mostBytes) ⌝ }
     ensures { λ r. ⌜ r ≡ bodyByte (now (store .entry)) cell place ⌝ }
@@ -58,4 +70,34 @@ pub fn set_body_byte(store: &mut [u8], cell: u8, place: u8, byte: u8)
     ensures { λ _. ⌜ now (store .exit) ≡ setBodyByte (now (store .entry)) cell place byte ⌝ }
 {
     store[CELL_SIZE * (cell as usize) + 2 + (place as usize)] = byte;
+}
+
+// Sets body bytes from a place on, up to an ESC or a byte over 127, and answers how many. The count of the cell stays.
+pub fn lay_bytes(
+    store: &mut [u8],
+    cell: u8,
+    place: u8,
+    bytes: &[u8],
+    from: usize,
+    to: usize,
+) -> usize
+    requires { ⌜ (Sized (now store)) × (from ≤ to) × (to ≤ length (now bytes)) × (place + (to - from) ≤ mostBytes) ⌝ }
+    ensures laid { λ r. ⌜ Laid (now (bytes .entry)) from cell place (now (store .entry)) r (now (store .exit)) ⌝ }
+    ensures most { λ r. ⌜ from + r ≤ to ⌝ }
+{
+    let at = CELL_SIZE * (cell as usize) + 2 + (place as usize);
+    let most = to - from;
+    let mut n: usize = 0;
+    while n < most {
+        let byte = bytes[from + n];
+        if 127 < byte {
+            break;
+        }
+        if byte == ESC {
+            break;
+        }
+        store[at + n] = byte;
+        n += 1;
+    }
+    n
 }

@@ -4,5 +4,6 @@ pub mod chains;
 pub mod cursors;
 pub mod definitions;
 pub mod escapes;
+pub mod filling;
 pub mod names;
 pub mod opening;

@@ -15,6 +15,7 @@ use Rattle.rules.specs.declared.Refusal.the-variants.{TooManyVertices}
 use Rattle.rules.specs.declared.Session.{Session}
 use Rattle.rules.specs.declared.Status.{Status}
 use Rattle.rules.specs.Step.{State}
+use Rattle.rules.specs.Bodies.{depthLeft}
 use Rattle.rules.specs.Drawing.{act}
 use Rattle.rules.specs.Reading.{Room, roomForStep, reading}
 use Rattle.rules.specs.Calls.{Handed, handed}
@@ -29,7 +30,11 @@ use Rattle.reader.specs.declared.feed.Fed.{Fed}
 use Rattle.reader.specs.Turn.{turn, Left, leaves}
 use Rattle.reader.specs.View.{stateAt, answered, sessionAfter, leftOf, startOf, atDepth, writtenTo, DueBy, Due, RoomBy, readOnIf}
 use Rattle.reader.specs.Handing.{stateLent, handedOf, fedOf}
+use Rattle.drawing.specs.declared.runs.Ran.{Ran}
+use Rattle.reader.specs.Walk.{placeAt, Walk, placeAfter, ranOn}
 use Rattle.reader.proofs.StepLaws.{draw-refused, draw-goes}
+use Rattle.reader.proofs.WalkLaws.{walk-keeps}
+use Rattle.reader.proofs.ProgressLaws.{walk-removed}
 use Rattle.reader.proofs.Whole.{Kept, Next, kept-first, kept-next, wholeReading}
 
 -- The state once a reading has ended, as a session
@@ -65,6 +70,26 @@ module _ (s : Session) (st₀ piece out₀ : List ℕ) (valid : Valid (stateLent
   loop-first =
       subst (λ (q : Progress). Kept first piece out₀ first (q .at) (q .written) out₀) (sym e₀)
       (kept-first first piece out₀ (subst Valid (sym first-lent) valid))
+
+  -- Runs before a turn: spent bodies removed, then bytes that write no record, then bytes that are drawn
+  module _ (p : Progress) (cells places firsts : List ℕ) (pen : Pen) (command : Command) (look : Look) (map st out : List ℕ)
+      (i : Kept first piece out₀ (stateAt (s .budget) p cells places firsts (drawingOf pen command look map) st) (p .at) (p .written) out)
+      (d : ℕ) (e : d ≡ depthLeft st (bodiesOf (p .depth) cells places) (p .depth)) (q : Progress) (f : q ≡ atDepth d p)
+    where
+      pub kept-removed : (Kept first piece out₀ (stateAt (s .budget) q cells places firsts (drawingOf pen command look map) st) (q .at) (q .written) out) × (p .steps ≤ q .steps)
+      kept-removed = walk-keeps piece first out₀ (walk-removed (s .budget) p cells places firsts (drawingOf pen command look map) st piece out d e q f) i
+
+      module _ (free : ℕ) (h : free ≡ length out - q .written) (r : Progress) (cells₁ places₁ firsts₁ st₁ : List ℕ)
+          (w : (g : Drawing) (l : List ℕ) → free ≡ length l - q .written → Walk piece (placeAt (s .budget) q cells places firsts g st l) (placeAt (s .budget) r cells₁ places₁ firsts₁ g st₁ l))
+        where
+          pub kept-coded : (Kept first piece out₀ (stateAt (s .budget) r cells₁ places₁ firsts₁ (drawingOf pen command look map) st₁) (r .at) (r .written) out) × (q .steps ≤ r .steps)
+          kept-coded = walk-keeps piece first out₀ (w (drawingOf pen command look map) out h) (kept-removed .0)
+
+          pub kept-drawn : (ran : Ran) (cells₂ places₂ out₁ : List ℕ)
+              → ((x m : List ℕ) → Walk piece (placeAt (s .budget) r cells₁ places₁ x (drawingOf pen command look m) st₁ out) (placeAt (s .budget) (ranOn (placeAfter (r .depth) (ran .count) (r .at)) ran r) cells₂ places₂ x (drawingOf (ran .pen) (ran .command) look m) st₁ out₁))
+              → (t : Progress) → t ≡ ranOn (placeAfter (r .depth) (ran .count) (r .at)) ran r
+              → (Kept first piece out₀ (stateAt (s .budget) t cells₂ places₂ firsts₁ (drawingOf (ran .pen) (ran .command) look map) st₁) (t .at) (t .written) out₁) × (r .steps ≤ t .steps)
+          kept-drawn ran cells₂ places₂ out₁ v t g = rw g (walk-keeps piece first out₀ (v firsts₁ map) (kept-coded .0))
 
   -- A reading that has ended hands the whole over
   hands-over : (a : Answer) (p : Progress) (cells places firsts : List ℕ) (d : Drawing) (st out : List ℕ)

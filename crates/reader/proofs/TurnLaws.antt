@@ -151,7 +151,7 @@ module _ (budget : ℕ) (p : Progress) (cells places firsts : List ℕ) (drawing
   abbrev Answers : Left → Type 0
   Answers l = l ≡ leaves (turn free (budget - p .steps) entry rest) (p .at) (p .written) out
 
-  spent-removed : removed ≡ removeSpent entry
+  pub spent-removed : removed ≡ removeSpent entry
   unfolding removeSpent unspent
   spent-removed = rw (f, e)
 

@@ -19,6 +19,7 @@ use Rattle.records.proofs.Writes.{overwrite-length}
 use Rattle.reader.specs.declared.step.Course.{Course}
 use Rattle.reader.specs.declared.step.Course.the-variants.{GoesOn, Ends as Ends·course, Draws}
 use Rattle.reader.specs.Turn.{Turn, Ends, Steps, turn, Left, leaves}
+use Rattle.reader.specs.Walk.{budgetLeft}
 use Rattle.reader.proofs.Turns.{Advance, Follows, turn-follows}
 
 -- So many bytes consumed and records written before a reading
@@ -33,13 +34,9 @@ drop-on : (s : Source) (n : ℕ) (l : List ℕ) → drop (consumedBy s 0) (drop 
 drop-on FromBody n l = refl
 drop-on FromPiece n l = drop-drop 1 n l ∙ ap (λ (k : ℕ). drop k l) (add-one n)
 
-consumed-within : (s : Source) (n : ℕ) (l : List ℕ) → n ≤ length l → consumedBy s 0 ≤ length (drop n l) → consumedBy s n ≤ length l
+pub consumed-within : (s : Source) (n : ℕ) (l : List ℕ) → n ≤ length l → consumedBy s 0 ≤ length (drop n l) → consumedBy s n ≤ length l
 consumed-within FromBody n l h k = h
 consumed-within FromPiece n l h k = let e = length-drop n l in omega arith
-
--- What is left to do of the budget
-abbrev budgetLeft : State → ℕ
-budgetLeft w = w .session .budget - w .session .steps
 
 abbrev pub wholeReading : State → List ℕ → List ℕ → Reading
 wholeReading w piece out = reading (Room (length out)) (budgetLeft w) w piece

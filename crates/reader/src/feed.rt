@@ -1,10 +1,14 @@
 // Feed: a reading of a piece, turn by turn, as far as the output has room.
+use crate::run::after_run;
+use crate::run::run_coded;
+use crate::run::run_drawn;
 use crate::step::Course;
 use crate::step::Progress;
 use crate::step::draw;
 use crate::turn::at_depth;
 use crate::turn::turn;
 use crate::verdict::verdict;
+use bodies::depth_left;
 use rules::Answer;
 use rules::Bodies;
 use rules::Coding;
@@ -133,6 +137,41 @@ fn read(session: Session, store: &mut [u8], piece: &[u8], out: &mut [u8]) -> Fed
     let mut look = drawing.look;
     let mut progress = start(session);
     loop {
+        let depth = depth_left(store, &cells, &places, progress.depth);
+        progress = at_depth(progress, depth);
+        let free = out.len() - progress.written;
+        let taken = progress.steps;
+        progress = run_coded(
+            progress,
+            budget,
+            free,
+            &mut cells,
+            &mut places,
+            &mut firsts,
+            store,
+            piece,
+        );
+        if taken < progress.steps {
+            continue;
+        }
+        let ran = run_drawn(
+            progress,
+            pen,
+            command,
+            look,
+            budget,
+            &mut cells,
+            &mut places,
+            store,
+            piece,
+            out,
+        );
+        progress = after_run(progress, ran);
+        pen = ran.pen;
+        command = ran.command;
+        if 0 < ran.count {
+            continue;
+        }
         let free = out.len() - progress.written;
         let turned = turn(
             progress,

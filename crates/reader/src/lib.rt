@@ -4,6 +4,7 @@ pub mod end;
 pub mod feed;
 pub mod number;
 pub mod open;
+pub mod run;
 pub mod step;
 pub mod turn;
 pub mod unread;

@@ -24,7 +24,7 @@ ghost use Rattle.reader.specs.Turn.{turn, nothingLeft, nextByte, sourceA
 ghost use Rattle.reader.specs.View.{stateAt, atDepth, leftOf, Due, RoomBy};
 
 // The most that the records of one step take.
-const ROOM_FOR_STEP: usize = 120;
+pub const ROOM_FOR_STEP: usize = 120;
 
 fn nothing_left(depth: u8, piece: &[u8], at: usize) -> bool
     ensures { λ r. ⌜ r ≡ nothingLeft depth (drop at (now (piece .entry))) ⌝ }

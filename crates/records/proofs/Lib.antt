@@ -1,2 +1,3 @@
 pub mod Writes
 pub mod Fields
+pub mod Heads

@@ -3,6 +3,8 @@ use Prim.Native.Nat.{ℕ, _+_}
 use mathlib.Core.List.{List, [], _∷_, _++_}
 use lib.ListN.{length, take, drop}
 use Rattle.rules.specs.declared.Record.{Record}
+use Rattle.rules.specs.Record.{word}
+use Rattle.records.specs.declared.Head.{Head}
 
 -- The list with bs at a place, every other byte kept
 unfoldable pub overwrite : ℕ → List ℕ → List ℕ → List ℕ
@@ -11,3 +13,7 @@ overwrite at bs l = take at l ++ (bs ++ drop (at + length bs) l)
 -- The bytes before the coordinates
 abbrev pub headOf : Record → List ℕ
 headOf r = r .kind ∷ r .flags ∷ r .mode ∷ r .colour0 ∷ r .colour1 ∷ r .colour2 ∷ r .set ∷ r .code ∷ []
+
+-- The same as two numbers
+abbrev pub headBytes : Head → List ℕ
+headBytes h = word (h .first) ++ word (h .second)

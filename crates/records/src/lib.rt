@@ -1,9 +1,10 @@
 // Records: their fields as the rules fill them, and their 40 bytes at a place of the output.
 ghost use mathlib.Core.Path.{_≡_};
+ghost use mathlib.Core.List.{[], _∷_, _++_};
 ghost use Prim.Native.Nat.{_+_, _≤_};
-ghost use lib.ListN.{length};
+ghost use lib.ListN.{length, set};
 ghost use Rattle.rules.specs.Record.{word, words, bytesOf, flag, flags, modeNumber, setNumber, recordOf, mark, figure};
-ghost use Rattle.records.specs.Bytes.{overwrite, headOf};
+ghost use Rattle.records.specs.Bytes.{overwrite, headOf, headBytes};
 ghost use Rattle.records.specs.Fields.{inkOf};
 use rules::Colour;
 use rules::Look;
@@ -32,29 +33,58 @@ fn put_point(out: &mut [u8], at: usize, p: Point)
     put_word(out, at + 4, p.y);
 }
 
-fn put_head(out: &mut [u8], at: usize, r: Record)
-    requires { ⌜ at + 8 ≤ length (now out) ⌝ }
-    ensures { λ _. ⌜ now (out .exit) ≡ overwrite at (headOf r) (now (out .entry)) ⌝ }
+// The first eight bytes of a record as two numbers, lowest byte first.
+pub struct Head {
+    pub first: u32,
+    pub second: u32,
+}
+
+fn join_bytes(a: u8, b: u8, c: u8, d: u8) -> u32
+    ensures { λ r. ⌜ word r ≡ a ∷ b ∷ c ∷ d ∷ [] ⌝ }
 {
-    out[at] = r.kind;
-    out[at + 1] = r.flags;
-    out[at + 2] = r.mode;
-    out[at + 3] = r.colour0;
-    out[at + 4] = r.colour1;
-    out[at + 5] = r.colour2;
-    out[at + 6] = r.set;
-    out[at + 7] = r.code;
+    a as u32 + 256 * (b as u32) + 65536 * (c as u32) + 16777216 * (d as u32)
+}
+
+// The same head with another code.
+pub fn with_code(head: Head, code: u8) -> Head
+    ensures { λ r. ⌜ headBytes r ≡ set (headBytes head) 7 code ⌝ }
+{
+    Head {
+        first: head.first,
+        second: head.second % 16777216 + 16777216 * (code as u32),
+    }
+}
+
+// The same head of another kind, with other flags.
+pub fn with_kind(head: Head, kind: u8, flags: u8) -> Head
+    ensures { λ r. ⌜ headBytes r ≡ set (set (headBytes head) 0 kind) 1 flags ⌝ }
+{
+    Head {
+        first: head.first / 65536 * 65536 + 256 * (flags as u32) + kind as u32,
+        second: head.second,
+    }
+}
+
+pub fn put_words(out: &mut [u8], at: usize, head: Head, p0: Point, p1: Point, p2: Point, pel: Point)
+    requires { ⌜ at + 40 ≤ length (now out) ⌝ }
+    ensures { λ _. ⌜ now (out .exit) ≡ overwrite at (headBytes head ++ words p0 ++ words p1 ++ words p2 ++ words pel) (now (out .entry)) ⌝ }
+{
+    put_word(out, at, head.first);
+    put_word(out, at + 4, head.second);
+    put_point(out, at + 8, p0);
+    put_point(out, at + 16, p1);
+    put_point(out, at + 24, p2);
+    put_point(out, at + 32, pel);
 }
 
 pub fn put_record(out: &mut [u8], at: usize, r: Record)
     requires { ⌜ at + 40 ≤ length (now out) ⌝ }
     ensures { λ _. ⌜ now (out .exit) ≡ overwrite at (bytesOf r) (now (out .entry)) ⌝ }
 {
-    put_head(out, at, r);
-    put_point(out, at + 8, r.p0);
-    put_point(out, at + 16, r.p1);
-    put_point(out, at + 24, r.p2);
-    put_point(out, at + 32, r.pel);
+    let first = join_bytes(r.kind, r.flags, r.mode, r.colour0);
+    let second = join_bytes(r.colour1, r.colour2, r.set, r.code);
+    let head = Head { first, second };
+    put_words(out, at, head, r.p0, r.p1, r.p2, r.pel);
 }
 
 fn flag(told: bool, n: u8) -> u8
@@ -155,6 +185,17 @@ pub fn record_of(
         p2,
         pel,
     }
+}
+
+// The head of such a record.
+pub fn head_of(look: Look, kind: u8, flags: u8, set: u8, code: u8) -> Head
+    ensures { λ r. ⌜ ((p q s : Point) → headBytes r ≡ headOf (recordOf look kind flags set code p q s)) ⌝ }
+{
+    let colour = look.colour;
+    let ink = ink_of(colour);
+    let first = join_bytes(kind, flags, ink.mode, ink.colour0);
+    let second = join_bytes(ink.colour1, ink.colour2, set, code);
+    Head { first, second }
 }
 
 pub fn mark(look: Look, kind: u8, set: u8, code: u8, p: Point) -> Record

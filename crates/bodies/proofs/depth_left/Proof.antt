@@ -31,7 +31,7 @@ returns c =
     let loop-test· = c .before .before .before .loop-test in
     let has-left· = c .before .has-left in
     let body-at· = c .before .before .body-at in
-    (sym (loop· .inv .0 ∙ left-here _ _ _ (loop-test· .taken) (body-at· .ensures 0) (has-left· .ensures) (c .if1 .taken)), omega arith)
+    (sym (loop· .inv .0 ∙ left-here _ _ _ (loop-test· .taken) (body-at· .ensures .0 0) (has-left· .ensures) (c .if1 .taken)), omega arith)
 
 sub-left : tie.Need-sub-left Inv-loop μ-loop
 sub-left c = omega arith
@@ -45,7 +45,7 @@ loop-again c =
     let loop-test· = c .before .before .before .loop-test in
     let has-left· = c .before .has-left in
     let body-at· = c .before .before .body-at in
-    (loop· .inv .0 ∙ left-below _ _ _ (loop-test· .taken) (body-at· .ensures 0) (has-left· .ensures) (c .if1 .left), omega arith)
+    (loop· .inv .0 ∙ left-below _ _ _ (loop-test· .taken) (body-at· .ensures .0 0) (has-left· .ensures) (c .if1 .left), omega arith)
 
 returns-2 : tie.Need-returns-2 Inv-loop μ-loop
 returns-2 c =

@@ -17,7 +17,7 @@ returns : tie.Need-returns
 returns c =
     let read-body· = c .read-body in
     let body-at· = c .before .body-at in
-    read-body· .ensures ∙ ap (readBody _) (body-at· .ensures 0)
+    read-body· .ensures ∙ ap (readBody _) (body-at· .ensures .0 0)
 
 pub innermost-spec : {M : Type 1} → statement M
 innermost-spec = tie.close (tie.spec sub-body-at body-at-requires read-body-requires returns)

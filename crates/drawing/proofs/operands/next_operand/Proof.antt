@@ -4,11 +4,11 @@ use borrow.Author.Needs.{needs}
 use Rattle.drawing.proofs.operands.next_operand.Statement.{statement}
 use Rattle.drawing.proofs.operands.next_operand.Tie as tie
 
-due-after-requires : tie.Need-due-after-requires
-due-after-requires c κs = search needs
-
 rested-requires : tie.Need-rested-requires
 rested-requires c κs = search needs
+
+with-due-requires : tie.Need-with-due-requires
+with-due-requires c κs = search needs
 
 no-record-requires : tie.Need-no-record-requires
 no-record-requires c κs = search needs
@@ -17,10 +17,10 @@ returns : tie.Need-returns
 unfolding carry
 returns c =
     let no-record· = c .no-record in
-    let rested· = c .before .rested in
-    let due-after· = c .before .before .before .before .due-after in
-    λ out m. no-record· .ensures out m ∙ simp (rested· .ensures, due-after· .ensures)
+    let rested· = c .before .before .rested in
+    let with-due· = c .before .with-due in
+    λ out m. no-record· .ensures out m ∙ simp (rested· .ensures, with-due· .ensures)
 
 pub next-operand-spec : {M : Type 1} → statement M
 next-operand-spec =
-    tie.close (tie.spec due-after-requires rested-requires no-record-requires returns)
+    tie.close (tie.spec rested-requires with-due-requires no-record-requires returns)

@@ -30,9 +30,10 @@ returns c =
     let at-depth· = c .before .before .before .at-depth in
     let nothing-left· = c .before .before .nothing-left in
     let if1· = c .before .if1 in
-    let ends· = c .ends in
-    (λ d out. turn-done (args· .budget) (args· .progress) (now (args· .cells)) (now (args· .places)) (now (args· .firsts)) d (now (args· .store)) (now (args· .piece)) out (args· .free) (depth-left· .result) (depth-left· .ensures .0) (at-depth· .result) (at-depth· .ensures) (sym (nothing-left· .ensures) ∙ if1· .taken) (ends· .result) (ends· .ensures),
-    (ends-due (atDepth (ends· .result .progress .depth) (args· .progress)) (at-depth· .result) (ends· .result) _ (ends· .ensures), ends-room (at-depth· .result) (ends· .result) _ (args· .free) (ends· .ensures)))
+    let ends· = c .ends in (
+      λ d out. turn-done (args· .budget) (args· .progress) (now (args· .cells)) (now (args· .places)) (now (args· .firsts)) d (now (args· .store)) (now (args· .piece)) out (args· .free) (depth-left· .result) (depth-left· .ensures .0) (at-depth· .result) (at-depth· .ensures) (sym (nothing-left· .ensures) ∙ if1· .taken) (ends· .result) (ends· .ensures),
+      (ends-due (atDepth (ends· .result .progress .depth) (args· .progress)) (at-depth· .result) (ends· .result) _ (ends· .ensures), ends-room (at-depth· .result) (ends· .result) _ (args· .free) (ends· .ensures)),
+    )
 
 ends-requires-2 : tie.Need-ends-requires-2
 ends-requires-2 c κs = search needs
@@ -48,9 +49,10 @@ returns-2 c =
     let nothing-left· = c .before .before .before .nothing-left in
     let if1· = c .before .before .if1 in
     let if2· = c .before .if2 in
-    let ends2· = c .ends2 in
-    (λ d out. turn-full (args· .budget) (args· .progress) (now (args· .cells)) (now (args· .places)) (now (args· .firsts)) d (now (args· .store)) (now (args· .piece)) out (args· .free) (depth-left· .result) (depth-left· .ensures .0) (at-depth· .result) (at-depth· .ensures) (sym (nothing-left· .ensures) ∙ if1· .left) (if2· .taken) (ends2· .result) (ends2· .ensures),
-    (ends-due (atDepth (ends2· .result .progress .depth) (args· .progress)) (at-depth· .result) (ends2· .result) _ (ends2· .ensures), ends-room (at-depth· .result) (ends2· .result) _ (args· .free) (ends2· .ensures)))
+    let ends2· = c .ends2 in (
+      λ d out. turn-full (args· .budget) (args· .progress) (now (args· .cells)) (now (args· .places)) (now (args· .firsts)) d (now (args· .store)) (now (args· .piece)) out (args· .free) (depth-left· .result) (depth-left· .ensures .0) (at-depth· .result) (at-depth· .ensures) (sym (nothing-left· .ensures) ∙ if1· .left) (if2· .taken) (ends2· .result) (ends2· .ensures),
+      (ends-due (atDepth (ends2· .result .progress .depth) (args· .progress)) (at-depth· .result) (ends2· .result) _ (ends2· .ensures), ends-room (at-depth· .result) (ends2· .result) _ (args· .free) (ends2· .ensures)),
+    )
 
 ends-requires-3 : tie.Need-ends-requires-3
 ends-requires-3 c κs = search needs
@@ -67,9 +69,10 @@ returns-3 c =
     let if1· = c .before .before .before .before .if1 in
     let if2· = c .before .before .before .if2 in
     let if3· = c .before .if3 in
-    let ends3· = c .ends3 in
-    (λ d out. turn-spent (args· .budget) (args· .progress) (now (args· .cells)) (now (args· .places)) (now (args· .firsts)) d (now (args· .store)) (now (args· .piece)) out (args· .free) (depth-left· .result) (depth-left· .ensures .0) (at-depth· .result) (at-depth· .ensures) (sym (nothing-left· .ensures) ∙ if1· .left) (if2· .left) (if3· .taken) (ends3· .result) (ends3· .ensures),
-    (ends-due (atDepth (ends3· .result .progress .depth) (args· .progress)) (at-depth· .result) (ends3· .result) _ (ends3· .ensures), ends-room (at-depth· .result) (ends3· .result) _ (args· .free) (ends3· .ensures)))
+    let ends3· = c .ends3 in (
+      λ d out. turn-spent (args· .budget) (args· .progress) (now (args· .cells)) (now (args· .places)) (now (args· .firsts)) d (now (args· .store)) (now (args· .piece)) out (args· .free) (depth-left· .result) (depth-left· .ensures .0) (at-depth· .result) (at-depth· .ensures) (sym (nothing-left· .ensures) ∙ if1· .left) (if2· .left) (if3· .taken) (ends3· .result) (ends3· .ensures),
+      (ends-due (atDepth (ends3· .result .progress .depth) (args· .progress)) (at-depth· .result) (ends3· .result) _ (ends3· .ensures), ends-room (at-depth· .result) (ends3· .result) _ (args· .free) (ends3· .ensures)),
+    )
 
 next-byte-requires : tie.Need-next-byte-requires
 next-byte-requires c κs =
@@ -124,9 +127,10 @@ returns-4 c =
     let if3· = c .before .before .before .before .before .before .before .if3 in
     let next-byte· = c .before .before .before .next-byte in
     let enum-told· = c .before .enum-told in
-    let ends4· = c .ends4 in
-    (λ d out. turn-bad (args· .budget) (args· .progress) (now (args· .cells)) (now (args· .places)) (now (args· .firsts)) d (now (args· .store)) (now (args· .piece)) out (args· .free) (depth-left· .result) (depth-left· .ensures .0) (at-depth· .result) (at-depth· .ensures) (sym (nothing-left· .ensures) ∙ if1· .left) (if2· .left) (if3· .left) (next-byte· .result) (next-byte· .ensures) (enum-told· .given .1) (ends4· .result) (ends4· .ensures),
-    (ends-due (atDepth (ends4· .result .progress .depth) (args· .progress)) (at-depth· .result) (ends4· .result) _ (ends4· .ensures), ends-room (at-depth· .result) (ends4· .result) _ (args· .free) (ends4· .ensures)))
+    let ends4· = c .ends4 in (
+      λ d out. turn-bad (args· .budget) (args· .progress) (now (args· .cells)) (now (args· .places)) (now (args· .firsts)) d (now (args· .store)) (now (args· .piece)) out (args· .free) (depth-left· .result) (depth-left· .ensures .0) (at-depth· .result) (at-depth· .ensures) (sym (nothing-left· .ensures) ∙ if1· .left) (if2· .left) (if3· .left) (next-byte· .result) (next-byte· .ensures) (enum-told· .given .1) (ends4· .result) (ends4· .ensures),
+      (ends-due (atDepth (ends4· .result .progress .depth) (args· .progress)) (at-depth· .result) (ends4· .result) _ (ends4· .ensures), ends-room (at-depth· .result) (ends4· .result) _ (args· .free) (ends4· .ensures)),
+    )
 
 same-length-5 : tie.Need-same-length-5
 same-length-5 c = search needs
@@ -142,9 +146,10 @@ returns-5 c =
     let if3· = c .before .before .before .before .before .before .before .before .before .before .before .before .before .before .before .if3 in
     let next-byte· = c .before .before .before .before .before .before .before .before .before .before .before .next-byte in
     let byte· = c .before .before .before .before .before .before .before .before .before .byte in
-    let interpret· = c .before .before .interpret in
-    (λ d out. turn-byte (args· .budget) (args· .progress) (now (args· .cells)) (now (args· .places)) (now (args· .firsts)) d (now (args· .store)) (now (args· .piece)) out (args· .free) (depth-left· .result) (depth-left· .ensures .0) (at-depth· .result) (at-depth· .ensures) (sym (nothing-left· .ensures) ∙ if1· .left) (if2· .left) (if3· .left) (next-byte· .result) (next-byte· .ensures) (byte· .given .1) (interpret· .result) (interpret· .ensures .1) (interpret· .last .1 .1 .1 .0) (interpret· .last .1 .1 .1 .1 .0) (interpret· .last .1 .1 .1 .1 .1 .0) (interpret· .last .1 .1 .1 .1 .1 .1 .0) (interpret· .ensures .0 (args· .budget) d out),
-    (due-from (args· .progress) (depth-left· .result) (at-depth· .result) (at-depth· .ensures) (interpret· .result) (interpret· .ensures .1), some-room (interpret· .result .course) (args· .free) (if2· .left)))
+    let interpret· = c .before .before .interpret in (
+      λ d out. turn-byte (args· .budget) (args· .progress) (now (args· .cells)) (now (args· .places)) (now (args· .firsts)) d (now (args· .store)) (now (args· .piece)) out (args· .free) (depth-left· .result) (depth-left· .ensures .0) (at-depth· .result) (at-depth· .ensures) (sym (nothing-left· .ensures) ∙ if1· .left) (if2· .left) (if3· .left) (next-byte· .result) (next-byte· .ensures) (byte· .given .1) (interpret· .result) (interpret· .ensures .1) (interpret· .last .1 .1 .1 .0) (interpret· .last .1 .1 .1 .1 .0) (interpret· .last .1 .1 .1 .1 .1 .0) (interpret· .last .1 .1 .1 .1 .1 .1 .0) (interpret· .ensures .0 (args· .budget) d out),
+      (due-from (args· .progress) (depth-left· .result) (at-depth· .result) (at-depth· .ensures) (interpret· .result) (interpret· .ensures .1), some-room (interpret· .result .course) (args· .free) (if2· .left)),
+    )
 
 pub turn-spec : {M : Type 1} → statement M
 turn-spec =

@@ -1,0 +1,15 @@
+-- Calls of empty bodies
+use Prim.Native.Nat.{ℕ, _+_, _<_}
+use mathlib.Core.List.{List}
+use mathlib.Core.Path.{_≡_}
+use lib.ListN.{getD}
+use Rattle.rules.specs.Store.{firstOf}
+use Rattle.macros.specs.Lent.{IsName}
+
+-- "zero for an empty body" is the first cell of the name
+abbrev pub NamesEmpty : List ℕ → ℕ → Type 0
+NamesEmpty firsts b = (IsName b) × (firstOf firsts b ≡ 0)
+
+-- So many bytes from a place on, each the name of an empty body
+abbrev pub CallsEmpty : List ℕ → List ℕ → ℕ → ℕ → Type 0
+CallsEmpty firsts bytes from n = (i : ℕ) → i < n → NamesEmpty firsts (getD bytes (from + i) 0)

@@ -1,0 +1,15 @@
+use borrow.Author.Needs.{needs}
+use Rattle.drawing.proofs.operands.with_due.Statement.{statement}
+use Rattle.drawing.proofs.operands.with_due.Tie as tie
+use Rattle.tables.proofs.opcodes.due_after.Reads as due-after-reads
+
+due-after-requires : tie.Need-due-after-requires
+due-after-requires c κs = search needs
+
+returns : tie.Need-returns
+returns c =
+    let due-after· = c .before .before .due-after in
+    rw (due-after· .ensures)
+
+pub with-due-spec : {M : Type 1} → statement M
+with-due-spec = tie.close (tie.spec due-after-requires returns)

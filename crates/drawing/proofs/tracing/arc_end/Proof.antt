@@ -1,0 +1,27 @@
+use mathlib.Core.Path.{refl}
+use native.Mathlib.Omega.{arith}
+use Rattle.rules.specs.Drawing.{arcTo}
+use Rattle.drawing.proofs.TraceLaws.{wrote}
+use borrow.Author.Needs.{needs}
+use Rattle.drawing.proofs.tracing.arc_end.Statement.{statement}
+use Rattle.drawing.proofs.tracing.arc_end.Tie as tie
+use Rattle.drawing.proofs.tracing.either.Reads as either-reads
+use Rattle.drawing.proofs.tracing.put_arc.Reads as put-arc-reads
+
+put-arc-requires : tie.Need-put-arc-requires
+put-arc-requires c κs = search needs
+
+add-t12 : tie.Need-add-t12
+add-t12 c = search needs
+
+same-length : tie.Need-same-length
+same-length c = search needs
+
+returns : tie.Need-returns
+unfolding arcTo
+returns c =
+    let put-arc· = c .before .before .put-arc in
+    (λ p l o m k. wrote _ _ _ _ _ _ (put-arc· .ensures l k) refl, (omega arith, refl))
+
+pub arc-end-spec : {M : Type 1} → statement M
+arc-end-spec = tie.close (tie.spec put-arc-requires add-t12 same-length returns)

@@ -1,0 +1,22 @@
+-- Runs: consecutive bytes of a definition that go into the last cell of its chain
+use Prim.Native.Nat.{ℕ, zero, suc, _+_, _≤_}
+use mathlib.Core.List.{List}
+use mathlib.Core.Path.{_≡_}
+use lib.ListN.{getD}
+use Rattle.rules.specs.Store.{Filling, Stored, setBodyByte, storeByte}
+
+-- A byte that a definition stores as it is: neither ESC nor over 127
+abbrev pub Plain : ℕ → Type 0
+Plain b = (b ≤ 127) × (b ≡ 27 → ⊥)
+
+-- So many bytes from a place on, set as body bytes of a cell one after the other; its count stays
+pub data Laid (bytes : List ℕ) (from cell place : ℕ) (st : List ℕ) : ℕ → List ℕ → Type 0 where
+  none : Laid bytes from cell place st zero st
+  more : {n : ℕ} {st₁ : List ℕ} → Laid bytes from cell place st n st₁ → Plain (getD bytes (from + n) 0)
+      → Laid bytes from cell place st (suc n) (setBodyByte st₁ cell (place + n) (getD bytes (from + n) 0))
+
+-- So many bytes from a place on, each stored by itself
+pub data Stores (bytes : List ℕ) (from : ℕ) (f : Filling) : ℕ → Filling → Type 0 where
+  none : Stores bytes from f zero f
+  more : {n : ℕ} {g h : Filling} → Stores bytes from f n g → Plain (getD bytes (from + n) 0)
+      → storeByte g (getD bytes (from + n) 0) ≡ Stored h → Stores bytes from f (suc n) h

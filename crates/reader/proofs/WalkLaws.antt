@@ -1,0 +1,57 @@
+-- What is kept along a walk
+use Prim.Native.Nat.{ℕ, _+_, _-_, _≤_}
+use native.Mathlib.Omega.{arith}
+use mathlib.Core.Path.{_≡_, refl, sym, _∙_, subst}
+use mathlib.Core.List.{List}
+use lib.ListN.{length, drop}
+use Rattle.rules.specs.declared.Record.{Record}
+use Rattle.rules.specs.Reading.{Room}
+use Rattle.rules.specs.Step.{State, removeSpent, Source}
+use Rattle.rules.proofs.Readings.{reading-removed}
+use Rattle.rules.proofs.Steps.{Valid, remove-later}
+use Rattle.reader.specs.Turn.{Steps, turn}
+use Rattle.reader.specs.Walk.{Place, budgetLeft, Walk, none, removed, step}
+use Rattle.reader.proofs.Turns.{Advance, Follows, turn-follows}
+use Rattle.reader.proofs.Whole.{Kept, kept-on}
+
+pub walk-then : {piece : List ℕ} {x y z : Place} → Walk piece x y → Walk piece y z → Walk piece x z
+walk-then a none = a
+walk-then a (removed b) = removed (walk-then a b)
+walk-then a (step b e) = step (walk-then a b) e
+
+module _ (piece : List ℕ) where
+  abbrev room : Place → ℕ
+  room y = length (y .output) - y .written
+
+  advances : (y : Place) {s : Source} {u : State} {rs : List Record} → Valid (y .state)
+      → turn (room y) (budgetLeft (y .state)) (y .state) (drop (y .at) piece) ≡ Steps s u rs
+      → Advance (room y) (budgetLeft (y .state)) (y .state) (drop (y .at) piece) s u rs
+  advances y i e =
+      subst (Follows (room y) (budgetLeft (y .state)) (y .state) (drop (y .at) piece)) e
+      (turn-follows (room y) (budgetLeft (y .state)) (y .state) (drop (y .at) piece) i)
+
+  abbrev KeptAt : State → List ℕ → Place → Type 0
+  KeptAt w out x = Kept w piece out (x .state) (x .at) (x .written) (x .output)
+
+  pub walk-keeps : (w : State) (out : List ℕ) {x y : Place} → Walk piece x y → KeptAt w out x
+      → (KeptAt w out y) × (x .state .session .steps ≤ y .state .session .steps)
+  unfolding removeSpent
+  walk-keeps w out none i = (i, omega arith)
+  walk-keeps w out (removed {y} a) i =
+      let j = walk-keeps w out a i in (
+        record {
+          same = j .0 .same ∙ rw (reading-removed (Room (room y)) (budgetLeft (y .state)) (y .state) (drop (y .at) piece));
+          past = j .0 .past;
+          long = j .0 .long;
+          within = j .0 .within;
+          on = j .0 .on;
+          sound = remove-later (y .state) .valid (j .0 .sound);
+        },
+        j .1,
+      )
+  walk-keeps w out (step {y} {s} {u} {rs} a e) i =
+      let j = walk-keeps w out a i in
+      let f = advances y (j .0 .sound) e in
+      let n = f .later .steps in
+      let k = j .1 in
+      (kept-on w piece out (y .state) (y .at) (y .written) (y .output) (j .0) f, omega arith)
