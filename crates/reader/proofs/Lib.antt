@@ -1,10 +1,6 @@
 pub mod Turns
 pub mod Whole
 pub mod WalkLaws
-pub mod RunLaws
-pub mod StepLaws
-pub mod TurnLaws
-pub mod ProgressLaws
 pub mod ReadLaws
 pub mod VerdictLaws
 pub mod EndLaws

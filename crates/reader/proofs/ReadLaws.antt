@@ -23,18 +23,18 @@ use Rattle.rules.proofs.Steps.{Valid}
 use Rattle.figures.specs.declared.Drawn.{Drawn}
 use Rattle.figures.specs.Carried.{carry, drawingOf, carriedOf}
 use Rattle.bodies.specs.Stack.{bodiesOf}
-use Rattle.reader.specs.declared.step.Course.the-variants.{GoesOn, Ends, Draws}
-use Rattle.reader.specs.declared.step.Progress.{Progress}
-use Rattle.reader.specs.declared.step.Turned.{Turned}
+use Rattle.turns.specs.declared.step.Course.the-variants.{GoesOn, Ends, Draws}
+use Rattle.turns.specs.declared.step.Progress.{Progress}
+use Rattle.turns.specs.declared.step.Turned.{Turned}
 use Rattle.reader.specs.declared.feed.Fed.{Fed}
-use Rattle.reader.specs.Turn.{turn, Left, leaves}
-use Rattle.reader.specs.View.{stateAt, answered, sessionAfter, leftOf, startOf, atDepth, writtenTo, DueBy, Due, RoomBy, readOnIf}
+use Rattle.turns.specs.Turn.{turn, Left, leaves}
+use Rattle.turns.specs.View.{stateAt, answered, sessionAfter, leftOf, startOf, atDepth, writtenTo, DueBy, Due, RoomBy, readOnIf}
 use Rattle.reader.specs.Handing.{stateLent, handedOf, fedOf}
 use Rattle.drawing.specs.declared.runs.Ran.{Ran}
-use Rattle.reader.specs.Walk.{placeAt, Walk, placeAfter, ranOn}
-use Rattle.reader.proofs.StepLaws.{draw-refused, draw-goes}
+use Rattle.turns.specs.Walk.{placeAt, Walk, placeAfter, ranOn}
+use Rattle.turns.proofs.StepLaws.{draw-refused, draw-goes}
 use Rattle.reader.proofs.WalkLaws.{walk-keeps}
-use Rattle.reader.proofs.ProgressLaws.{walk-removed}
+use Rattle.turns.proofs.ProgressLaws.{walk-removed}
 use Rattle.reader.proofs.Whole.{Kept, Next, kept-first, kept-next, wholeReading}
 
 -- The state once a reading has ended, as a session

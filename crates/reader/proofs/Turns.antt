@@ -14,7 +14,7 @@ use Rattle.rules.specs.Reading.{Room, roomForStep, rests, consumedBy, after, re
 use Rattle.rules.proofs.RecordCount.{records-length}
 use Rattle.rules.proofs.Steps.{Valid, Later, later-then, remove-later, step-later, step-most, seek-rest}
 use Rattle.rules.proofs.Readings.{budget, spoilt, refused, reads-done, reads-full, reads-halt, reads-step}
-use Rattle.reader.specs.Turn.{Turn, Ends, Steps, onMove, onSought, turn}
+use Rattle.turns.specs.Turn.{Turn, Ends, Steps, onMove, onSought, turn}
 
 -- An accepted step: the reading is the step, and then the reading from the state after it
 pub record Advance (room n : ℕ) (w : State) (bs : List ℕ) (s : Source) (u : State) (rs : List Record) : Type 0 where

@@ -9,8 +9,8 @@ use Rattle.rules.specs.Reading.{Room}
 use Rattle.rules.specs.Step.{State, removeSpent, Source}
 use Rattle.rules.proofs.Readings.{reading-removed}
 use Rattle.rules.proofs.Steps.{Valid, remove-later}
-use Rattle.reader.specs.Turn.{Steps, turn}
-use Rattle.reader.specs.Walk.{Place, budgetLeft, Walk, none, removed, step}
+use Rattle.turns.specs.Turn.{Steps, turn}
+use Rattle.turns.specs.Walk.{Place, budgetLeft, Walk, none, removed, step}
 use Rattle.reader.proofs.Turns.{Advance, Follows, turn-follows}
 use Rattle.reader.proofs.Whole.{Kept, kept-on}
 

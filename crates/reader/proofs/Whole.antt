@@ -16,10 +16,10 @@ use Rattle.rules.specs.Calls.{handed}
 use Rattle.rules.proofs.Steps.{Valid}
 use Rattle.records.specs.Bytes.{overwrite}
 use Rattle.records.proofs.Writes.{overwrite-length}
-use Rattle.reader.specs.declared.step.Course.{Course}
-use Rattle.reader.specs.declared.step.Course.the-variants.{GoesOn, Ends as Ends·course, Draws}
-use Rattle.reader.specs.Turn.{Turn, Ends, Steps, turn, Left, leaves}
-use Rattle.reader.specs.Walk.{budgetLeft}
+use Rattle.turns.specs.declared.step.Course.{Course}
+use Rattle.turns.specs.declared.step.Course.the-variants.{GoesOn, Ends as Ends·course, Draws}
+use Rattle.turns.specs.Turn.{Turn, Ends, Steps, turn, Left, leaves}
+use Rattle.turns.specs.Walk.{budgetLeft}
 use Rattle.reader.proofs.Turns.{Advance, Follows, turn-follows}
 
 -- So many bytes consumed and records written before a reading

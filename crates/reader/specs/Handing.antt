@@ -6,7 +6,7 @@ use Rattle.rules.specs.declared.Session.{Session}
 use Rattle.rules.specs.Step.{State}
 use Rattle.rules.specs.Calls.{Handed}
 use Rattle.reader.specs.declared.feed.Fed.{Fed}
-use Rattle.reader.specs.declared.step.Progress.{Progress}
+use Rattle.turns.specs.declared.step.Progress.{Progress}
 
 abbrev pub stateLent : Session → List ℕ → State
 stateLent s st = record { session = s; store = st }

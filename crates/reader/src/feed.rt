@@ -1,12 +1,4 @@
 // Feed: a reading of a piece, turn by turn, as far as the output has room.
-use crate::run::after_run;
-use crate::run::run_coded;
-use crate::run::run_drawn;
-use crate::step::Course;
-use crate::step::Progress;
-use crate::step::draw;
-use crate::turn::at_depth;
-use crate::turn::turn;
 use crate::verdict::verdict;
 use bodies::depth_left;
 use rules::Answer;
@@ -20,6 +12,14 @@ use rules::Refusal;
 use rules::Session;
 use rules::Status;
 use rules::Verdict;
+use turns::run::after_run;
+use turns::run::run_coded;
+use turns::run::run_drawn;
+use turns::step::Course;
+use turns::step::Progress;
+use turns::step::draw;
+use turns::turn::at_depth;
+use turns::turn::turn;
 ghost use mathlib.Core.Path.{_≡_};
 ghost use Prim.Native.Nat.{_-_};
 ghost use lib.ListN.{length};
@@ -27,7 +27,7 @@ ghost use Rattle.rules.specs.Reading.{Room, reading};
 ghost use Rattle.rules.specs.Calls.{handed, feed};
 ghost use Rattle.rules.proofs.Steps.{Valid};
 ghost use Rattle.figures.specs.Carried.{drawingOf};
-ghost use Rattle.reader.specs.View.{startOf, writtenTo, statusAfter, sessionAfter};
+ghost use Rattle.turns.specs.View.{startOf, writtenTo, statusAfter, sessionAfter};
 ghost use Rattle.reader.specs.Handing.{stateLent, handedOf, fedOf};
 
 pub struct Fed {

@@ -4,8 +4,5 @@ pub mod end;
 pub mod feed;
 pub mod number;
 pub mod open;
-pub mod run;
-pub mod step;
-pub mod turn;
 pub mod unread;
 pub mod verdict;

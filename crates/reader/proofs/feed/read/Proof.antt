@@ -1,9 +1,9 @@
 use Rattle.reader.proofs.ReadLaws.{loop-first, loop-on, loop-ends, loop-draws, loop-refused, drawn-due, drawn-room, kept-removed, kept-coded, kept-drawn}
-use Rattle.reader.proofs.ProgressLaws.{valid-domain, valid-command}
+use Rattle.turns.proofs.ProgressLaws.{valid-domain, valid-command}
 use Rattle.reader.proofs.Whole.{Kept}
-use Rattle.reader.proofs.TurnLaws.{valid-store, valid-depth}
-use Rattle.reader.specs.declared.step.Progress.{Progress}
-use Rattle.reader.specs.View.{stateAt}
+use Rattle.turns.proofs.TurnLaws.{valid-store, valid-depth}
+use Rattle.turns.specs.declared.step.Progress.{Progress}
+use Rattle.turns.specs.View.{stateAt}
 use Rattle.figures.specs.Carried.{drawingOf}
 use denote.Ref.{now}
 use borrow.Author.Needs.{needs}

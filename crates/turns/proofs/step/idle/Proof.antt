@@ -1,0 +1,28 @@
+use Rattle.turns.proofs.StepLaws.{idle-goes}
+use denote.Ref.{now}
+use borrow.Author.Needs.{needs}
+use Rattle.turns.proofs.step.idle.Statement.{statement}
+use Rattle.turns.proofs.step.idle.Tie as tie
+
+read-on-requires : tie.Need-read-on-requires
+read-on-requires c κs =
+    let pre· = c .before .before .before .pre in
+    pre· .depth
+
+counted-requires : tie.Need-counted-requires
+counted-requires c κs =
+    let pre· = c .before .before .before .before .pre in
+    pre· .steps
+
+returns : tie.Need-returns
+returns c =
+    let args· = c .before .before .before .before .before .args in
+    let read-on· = c .before .read-on in
+    let pre· = c .before .before .before .before .before .pre in
+    let counted· = c .counted in (
+      λ budget d firsts st out. idle-goes budget (args· .progress) (now (args· .cells)) (now (args· .places)) firsts d st out (args· .onward .cursor) (args· .reacted .sets) (args· .reacted .waiting) (read-on· .last .0) (read-on· .last .1 .0) (args· .onward .at) (read-on· .ensures) (pre· .after) (counted· .result) (counted· .ensures),
+      tt,
+    )
+
+pub idle-spec : {M : Type 1} → statement M
+idle-spec = tie.close (tie.spec read-on-requires counted-requires returns)

@@ -1,0 +1,141 @@
+-- The state of a reading as the code holds it: in parts, with the drawing state and the arrays beside them
+use Prim.Native.Nat.{ℕ, _+_, _≤_, _<_}
+use mathlib.Core.Bool.{Bool, true, false}
+use mathlib.Core.Path.{_≡_}
+use mathlib.Core.List.{List}
+use Rattle.rules.specs.declared.Action.{Action}
+use Rattle.rules.specs.declared.Bodies.{Bodies}
+use Rattle.rules.specs.declared.Cursor.{Cursor}
+use Rattle.rules.specs.declared.Drawing.{Drawing}
+use Rattle.rules.specs.declared.Sets.{Sets}
+use Rattle.rules.specs.declared.Waiting.{Waiting}
+use Rattle.rules.specs.declared.Session.{Session}
+use Rattle.rules.specs.declared.Status.{Status}
+use Rattle.rules.specs.declared.Status.the-variants.{Running, Stopped}
+use Rattle.rules.specs.declared.Answer.{Answer}
+use Rattle.rules.specs.declared.Answer.the-variants.{Done, Full, Refused}
+use Rattle.rules.specs.Drawing.{act}
+use Rattle.rules.specs.Step.{State, stateOf, withStatus, onOutcome}
+use Rattle.rules.specs.Reading.{roomForStep, consumedBy}
+use Rattle.bodies.specs.Stack.{bodiesOf}
+use Rattle.coding.specs.View.{codingOf}
+use Rattle.turns.specs.Turn.{sourceAt, readOn, stepBy, Left, leaves}
+use Rattle.turns.specs.declared.step.Course.{Course}
+use Rattle.turns.specs.declared.step.Course.the-variants.{GoesOn, Ends, Draws}
+use Rattle.turns.specs.declared.step.Progress.{Progress}
+use Rattle.turns.specs.declared.step.Turned.{Turned}
+
+abbrev pub stateAt : ℕ → Progress → List ℕ → List ℕ → List ℕ → Drawing → List ℕ → State
+stateAt budget p cells places firsts d st =
+    stateOf budget (p .steps) Running (bodiesOf (p .depth) cells places) (codingOf (p .sets) (p .waiting) firsts) d st
+
+-- Where a reading starts from a session
+abbrev pub startOf : Session → Progress
+startOf s =
+    record {
+      at = 0;
+      written = 0;
+      steps = s .steps;
+      depth = s .bodies .depth;
+      sets = s .coding .sets;
+      waiting = s .coding .waiting;
+    }
+
+-- An accepted step, which counts
+abbrev pub stepsTo : ℕ → ℕ → Sets → Waiting → Progress → Progress
+stepsTo at depth s x p =
+    record { at = at; written = p .written; steps = p .steps + 1; depth = depth; sets = s; waiting = x }
+
+-- With spent bodies removed
+abbrev pub atDepth : ℕ → Progress → Progress
+atDepth d p =
+    record {
+      at = p .at;
+      written = p .written;
+      steps = p .steps;
+      depth = d;
+      sets = p .sets;
+      waiting = p .waiting;
+    }
+
+-- With the records of a step
+abbrev pub writtenTo : ℕ → Progress → Progress
+writtenTo n p =
+    record { at = p .at; written = n; steps = p .steps; depth = p .depth; sets = p .sets; waiting = p .waiting }
+
+-- "A refused step changes nothing but the stop"
+abbrev pub answered : Answer → State → State
+answered Done w = w
+answered Full w = w
+answered (Refused r) w = withStatus (Stopped r) w
+
+abbrev pub statusAfter : Answer → Status
+statusAfter Done = Running
+statusAfter Full = Running
+statusAfter (Refused r) = Stopped r
+
+abbrev pub sessionAfter : Answer → ℕ → Progress → List ℕ → List ℕ → List ℕ → Drawing → Session
+sessionAfter a budget p cells places firsts d =
+    record {
+      budget = budget;
+      steps = p .steps;
+      status = statusAfter a;
+      bodies = bodiesOf (p .depth) cells places;
+      coding = codingOf (p .sets) (p .waiting) firsts;
+      drawing = d;
+    }
+
+-- What a turn leaves by its course, from the progress p to q. Where an action is to be drawn, that is what drawing it leaves, the
+-- innermost body then read on at x
+abbrev pub leftBy : Course → ℕ → Progress → Progress → Cursor → List ℕ → List ℕ → List ℕ → Drawing → List ℕ → List ℕ → Left
+leftBy GoesOn budget p q x cells places firsts d st out =
+    record {
+      course = GoesOn;
+      state = stateAt budget q cells places firsts d st;
+      consumed = q .at;
+      written = q .written;
+      output = out;
+    }
+leftBy (Ends a) budget p q x cells places firsts d st out =
+    record {
+      course = Ends a;
+      state = answered a (stateAt budget q cells places firsts d st);
+      consumed = q .at;
+      written = q .written;
+      output = out;
+    }
+leftBy (Draws a) budget p q x cells places firsts d st out =
+    leaves
+    (stepBy (p .depth) x (onOutcome (act a d) (codingOf (q .sets) (q .waiting) firsts) st) (stateAt budget p cells places firsts d st))
+    (p .at) (p .written) out
+
+abbrev pub leftOf : ℕ → Progress → Turned → List ℕ → List ℕ → List ℕ → Drawing → List ℕ → List ℕ → Left
+leftOf budget p r cells places firsts d st out =
+    leftBy (r .course) budget p (r .progress) (r .cursor) cells places firsts d st out
+
+-- Where an action is to be drawn, q is the progress of an accepted step from p that keeps the bodies
+abbrev pub DueBy : Course → Progress → Progress → Type 0
+DueBy GoesOn p q = Unit
+DueBy (Ends a) p q = Unit
+DueBy (Draws a) p q =
+    (q ≡ stepsTo (consumedBy (sourceAt (p .depth)) (p .at)) (p .depth) (q .sets) (q .waiting) p) × (p .depth ≤ 8)
+
+abbrev pub Due : Progress → Turned → Type 0
+Due p r = DueBy (r .course) p (r .progress)
+
+-- and the output has room for a step
+abbrev pub RoomBy : Course → ℕ → Type 0
+RoomBy GoesOn n = Unit
+RoomBy (Ends a) n = Unit
+RoomBy (Draws a) n = roomForStep ≤ n
+
+-- The innermost body is read on unless the action was refused
+abbrev pub readOnIf : Bool → ℕ → Cursor → Bodies → Bodies
+readOnIf true d x y = y
+readOnIf false d x y = readOn d x y
+
+-- What is asked of a step that is due: bodies to hold, a count to go up, and the place of the piece once its byte is read
+pub record Ready (p : Progress) (n : ℕ) : Type 0 where
+  pub depth : p .depth ≤ 8
+  pub steps : p .steps < 4294967295
+  pub after : n ≡ consumedBy (sourceAt (p .depth)) (p .at)

@@ -1,0 +1,250 @@
+// One step: a byte that was read is interpreted. All that can refuse it comes before the first change.
+use bodies::MOST_DEPTH;
+use bodies::set_body;
+use coding::react;
+use coding::reactions::Effect;
+use coding::reactions::Reacted;
+use drawing::act;
+use figures::Drawn;
+use macros::names::first_of;
+use rules::Action;
+use rules::Answer;
+use rules::Command;
+use rules::Cursor;
+use rules::Look;
+use rules::Pen;
+use rules::Refusal;
+use rules::Sets;
+use rules::Waiting;
+use tables::escapes::after_escape;
+ghost use mathlib.Core.Path.{_≡_};
+ghost use mathlib.Core.Bool.{true};
+ghost use mathlib.Core.List.{List};
+ghost use Prim.Native.Nat.{ℕ, _+_, _≤_, _<_};
+ghost use lib.ListN.{length};
+ghost use Rattle.rules.specs.declared.Drawing.{Drawing};
+ghost use Rattle.rules.specs.Drawing.{act};
+ghost use Rattle.rules.specs.Ranges.{waitingFits, drawingFits};
+ghost use Rattle.rules.specs.Step.{onOutcome, call, opensInside};
+ghost use Rattle.macros.specs.Lent.{Sized, IsName};
+ghost use Rattle.figures.specs.Carried.{carryOut, drawingOf, carriedOf};
+ghost use Rattle.bodies.specs.Stack.{bodiesOf};
+ghost use Rattle.coding.specs.View.{codingOf};
+ghost use Rattle.turns.specs.Turn.{sourceAt, readOn, stepBy, interpreted, leaves};
+ghost use Rattle.turns.specs.View.{stateAt, stepsTo, leftOf, Due, Ready, readOnIf};
+
+// Where a reading stands between two steps. The drawing state and the arrays of the state are lent beside it.
+pub struct Progress {
+    pub at: usize,
+    pub written: usize,
+    pub steps: u32,
+    pub depth: u8,
+    pub sets: Sets,
+    pub waiting: Waiting,
+}
+
+// Where reading goes on once a byte is read: in the piece, and in the innermost body.
+pub struct Onward {
+    pub at: usize,
+    pub cursor: Cursor,
+}
+
+// A step was accepted, the reading ends, or the step is accepted if its action can be drawn.
+pub enum Course {
+    GoesOn,
+    Ends(Answer),
+    Draws(Action),
+}
+
+// The cursor is where the innermost body goes on once the action is drawn.
+pub struct Turned {
+    pub course: Course,
+    pub progress: Progress,
+    pub cursor: Cursor,
+}
+
+const NOWHERE: Cursor = Cursor { cell: 0, place: 0 };
+
+pub fn ends(progress: Progress, answer: Answer) -> Turned
+    ensures { λ r. ⌜ r ≡ record { course = Course.Ends answer; progress = progress; cursor = record { cell = 0; place = 0 } } ⌝ }
+{
+    Turned {
+        course: Course::Ends(answer),
+        progress,
+        cursor: NOWHERE,
+    }
+}
+
+// How an accepted step leaves the progress: it counts.
+fn counted(progress: Progress, at: usize, depth: u8, reacted: Reacted) -> Progress
+    requires { ⌜ progress .steps < 4294967295 ⌝ }
+    ensures { λ r. ⌜ r ≡ stepsTo at depth (reacted .sets) (reacted .waiting) progress ⌝ }
+{
+    let sets = reacted.sets;
+    let waiting = reacted.waiting;
+    Progress {
+        at,
+        written: progress.written,
+        steps: progress.steps + 1,
+        depth,
+        sets,
+        waiting,
+    }
+}
+
+// Whether a byte from a body is the one that opens a definition.
+fn opens_inside(depth: u8, waiting: Waiting, byte: u8) -> bool
+    ensures { λ r. ⌜ r ≡ opensInside (sourceAt depth) waiting byte ⌝ }
+{
+    if depth == 0 {
+        return false;
+    }
+    after_escape(waiting) && byte == 64
+}
+
+// The innermost body goes on at the cursor. Without a body there is none to keep.
+pub fn read_on(cells: &mut [u8; 8], places: &mut [u8; 8], depth: u8, cursor: Cursor)
+    requires { ⌜ depth ≤ 8 ⌝ }
+    ensures { λ _. ⌜ bodiesOf depth (now (cells .exit)) (now (places .exit)) ≡ readOn depth cursor (bodiesOf depth (now (cells .entry)) (now (places .entry))) ⌝ }
+{
+    if depth == 0 {
+        return;
+    }
+    set_body(cells, places, depth - 1, cursor);
+}
+
+fn call(
+    progress: Progress,
+    onward: Onward,
+    name: u8,
+    reacted: Reacted,
+    cells: &mut [u8; 8],
+    places: &mut [u8; 8],
+    firsts: &[u8; 96],
+) -> Turned
+    requires { ⌜ (Ready progress (onward .at)) × (IsName name) ⌝ }
+    ensures left { λ r. ⌜ ((budget : ℕ) (d : Drawing) (st out : List ℕ) → leftOf budget progress r (now (cells .exit)) (now (places .exit)) (now (firsts .entry)) d st out ≡ leaves (stepBy (progress .depth) (onward .cursor) (call name (codingOf (reacted .sets) (reacted .waiting) (now (firsts .entry)))) (stateAt budget progress (now (cells .entry)) (now (places .entry)) (now (firsts .entry)) d st)) (progress .at) (progress .written) out) ⌝ }
+    ensures due { λ r. ⌜ Due progress r ⌝ }
+{
+    let depth = progress.depth;
+    if MOST_DEPTH <= depth {
+        return ends(progress, Answer::Refused(Refusal::TooDeep));
+    }
+    let cursor = onward.cursor;
+    read_on(cells, places, depth, cursor);
+    let cell = first_of(firsts, name);
+    set_body(cells, places, depth, Cursor { cell, place: 0 });
+    Turned {
+        course: Course::GoesOn,
+        progress: counted(progress, onward.at, depth + 1, reacted),
+        cursor: NOWHERE,
+    }
+}
+
+// Nothing is asked of drawing.
+fn idle(
+    progress: Progress,
+    onward: Onward,
+    reacted: Reacted,
+    cells: &mut [u8; 8],
+    places: &mut [u8; 8],
+) -> Turned
+    requires { ⌜ Ready progress (onward .at) ⌝ }
+    ensures left { λ r. ⌜ ((budget : ℕ) (d : Drawing) (firsts st out : List ℕ) → leftOf budget progress r (now (cells .exit)) (now (places .exit)) firsts d st out ≡ leaves (stepBy (progress .depth) (onward .cursor) (onOutcome (act Action.Idle d) (codingOf (reacted .sets) (reacted .waiting) firsts) st) (stateAt budget progress (now (cells .entry)) (now (places .entry)) firsts d st)) (progress .at) (progress .written) out) ⌝ }
+    ensures due { λ r. ⌜ Due progress r ⌝ }
+{
+    let depth = progress.depth;
+    let cursor = onward.cursor;
+    read_on(cells, places, depth, cursor);
+    Turned {
+        course: Course::GoesOn,
+        progress: counted(progress, onward.at, depth, reacted),
+        cursor: NOWHERE,
+    }
+}
+
+// The body is read on once the action is drawn.
+fn draws(progress: Progress, onward: Onward, action: Action, reacted: Reacted) -> Turned
+    requires { ⌜ Ready progress (onward .at) ⌝ }
+    ensures left { λ r. ⌜ ((budget : ℕ) (cells places firsts : List ℕ) (d : Drawing) (st out : List ℕ) → leftOf budget progress r cells places firsts d st out ≡ leaves (stepBy (progress .depth) (onward .cursor) (onOutcome (act action d) (codingOf (reacted .sets) (reacted .waiting) firsts) st) (stateAt budget progress cells places firsts d st)) (progress .at) (progress .written) out) ⌝ }
+    ensures due { λ r. ⌜ Due progress r ⌝ }
+{
+    let cursor = onward.cursor;
+    Turned {
+        course: Course::Draws(action),
+        progress: counted(progress, onward.at, progress.depth, reacted),
+        cursor,
+    }
+}
+
+fn ask(
+    progress: Progress,
+    onward: Onward,
+    action: Action,
+    reacted: Reacted,
+    cells: &mut [u8; 8],
+    places: &mut [u8; 8],
+) -> Turned
+    requires { ⌜ Ready progress (onward .at) ⌝ }
+    ensures left { λ r. ⌜ ((budget : ℕ) (d : Drawing) (firsts st out : List ℕ) → leftOf budget progress r (now (cells .exit)) (now (places .exit)) firsts d st out ≡ leaves (stepBy (progress .depth) (onward .cursor) (onOutcome (act action d) (codingOf (reacted .sets) (reacted .waiting) firsts) st) (stateAt budget progress (now (cells .entry)) (now (places .entry)) firsts d st)) (progress .at) (progress .written) out) ⌝ }
+    ensures due { λ r. ⌜ Due progress r ⌝ }
+{
+    match action {
+        Action::Idle => idle(progress, onward, reacted, cells, places),
+        _ => draws(progress, onward, action, reacted),
+    }
+}
+
+// Interprets a byte. Only a definition writes to the store, and it asks nothing of drawing.
+pub fn interpret(
+    progress: Progress,
+    onward: Onward,
+    byte: u8,
+    cells: &mut [u8; 8],
+    places: &mut [u8; 8],
+    firsts: &mut [u8; 96],
+    store: &mut [u8],
+) -> Turned
+    requires { ⌜ (Ready progress (onward .at)) × (Sized (now store)) × (waitingFits (progress .waiting) ≡ true) ⌝ }
+    ensures left { λ r. ⌜ ((budget : ℕ) (d : Drawing) (out : List ℕ) → leftOf budget progress r (now (cells .exit)) (now (places .exit)) (now (firsts .exit)) d (now (store .exit)) out ≡ leaves (interpreted (progress .depth) (onward .cursor) byte (stateAt budget progress (now (cells .entry)) (now (places .entry)) (now (firsts .entry)) d (now (store .entry)))) (progress .at) (progress .written) out) ⌝ }
+    ensures due { λ r. ⌜ Due progress r ⌝ }
+{
+    let sets = progress.sets;
+    let waiting = progress.waiting;
+    if opens_inside(progress.depth, waiting, byte) {
+        return ends(progress, Answer::Refused(Refusal::DefinitionInBody));
+    }
+    let reacted = react(sets, waiting, firsts, store, byte);
+    let effect = reacted.effect;
+    match effect {
+        Effect::Refuses(refusal) => ends(progress, Answer::Refused(refusal)),
+        Effect::Calls(name) => call(progress, onward, name, reacted, cells, places, firsts),
+        Effect::Acts(action) => ask(progress, onward, action, reacted, cells, places),
+    }
+}
+
+// Draws the action of a turn, and reads its body on where drawing accepts it.
+pub fn draw(
+    action: Action,
+    depth: u8,
+    cursor: Cursor,
+    pen: Pen,
+    command: Command,
+    look: Look,
+    cells: &mut [u8; 8],
+    places: &mut [u8; 8],
+    map: &mut [u8; 48],
+    out: &mut [u8],
+    at: usize,
+) -> Drawn
+    requires { ⌜ (depth ≤ 8) × (drawingFits (drawingOf pen command look (now map)) ≡ true) × (at + 120 ≤ length (now out)) ⌝ }
+    ensures drawn { λ r. ⌜ carriedOf r (now (map .exit)) (now (out .exit)) ≡ carryOut (act action) (drawingOf pen command look (now (map .entry))) at (now (out .entry)) ⌝ }
+    ensures bodies { λ r. ⌜ bodiesOf depth (now (cells .exit)) (now (places .exit)) ≡ readOnIf (r .refused) depth cursor (bodiesOf depth (now (cells .entry)) (now (places .entry))) ⌝ }
+{
+    let drawn = act(action, pen, command, look, map, out, at);
+    if drawn.refused {
+        return drawn;
+    }
+    read_on(cells, places, depth, cursor);
+    drawn
+}

@@ -1,0 +1,107 @@
+// One turn of a reading: spent bodies are removed, then the checks in their order, then a step.
+use crate::step::Onward;
+use crate::step::Progress;
+use crate::step::Turned;
+use crate::step::ends;
+use crate::step::interpret;
+use bodies::depth_left;
+use bodies::innermost;
+use rules::Answer;
+use rules::Cursor;
+use rules::Read;
+use rules::Refusal;
+ghost use mathlib.Core.Path.{_≡_};
+ghost use Prim.Native.Nat.{ℕ, _≤_, _<_, _-_};
+ghost use lib.ListN.{length, drop};
+ghost use Rattle.rules.specs.Reading.{consumedBy};
+ghost use Rattle.macros.specs.Lent.{Sized};
+ghost use mathlib.Core.Bool.{true};
+ghost use mathlib.Core.List.{List};
+ghost use Rattle.rules.specs.declared.Drawing.{Drawing};
+ghost use Rattle.rules.specs.Ranges.{waitingFits};
+ghost use Rattle.bodies.specs.Stack.{bodiesOf};
+ghost use Rattle.turns.specs.Turn.{turn, nothingLeft, nextByte, sourceAt, leaves};
+ghost use Rattle.turns.specs.View.{stateAt, atDepth, leftOf, Due, RoomBy};
+
+// The most that the records of one step take.
+pub const ROOM_FOR_STEP: usize = 120;
+
+fn nothing_left(depth: u8, piece: &[u8], at: usize) -> bool
+    ensures { λ r. ⌜ r ≡ nothingLeft depth (drop at (now (piece .entry))) ⌝ }
+{
+    depth == 0 && piece.len() <= at
+}
+
+// The byte of the innermost body, else of the piece.
+fn next_byte(
+    store: &[u8],
+    cells: &[u8; 8],
+    places: &[u8; 8],
+    depth: u8,
+    piece: &[u8],
+    at: usize,
+) -> Read
+    requires { ⌜ (Sized (now store)) × (depth ≤ 8) × (depth ≡ 0 → at < length (now piece)) ⌝ }
+    ensures { λ r. ⌜ r ≡ nextByte depth (now (store .entry)) (bodiesOf depth (now (cells .entry)) (now (places .entry))) (drop at (now (piece .entry))) ⌝ }
+{
+    if depth == 0 {
+        return Read::Byte(piece[at], Cursor { cell: 0, place: 0 });
+    }
+    innermost(store, cells, places, depth)
+}
+
+// The place of the piece once a byte is read.
+fn place_after(depth: u8, at: usize) -> usize
+    requires { ⌜ (depth ≡ 0 → at < 18446744073709551615) ⌝ }
+    ensures { λ r. ⌜ r ≡ consumedBy (sourceAt depth) at ⌝ }
+{
+    if depth == 0 { at + 1 } else { at }
+}
+
+pub fn at_depth(progress: Progress, depth: u8) -> Progress
+    ensures { λ r. ⌜ r ≡ atDepth depth progress ⌝ }
+{
+    let mut progress = progress;
+    progress.depth = depth;
+    progress
+}
+
+// With so many bytes of the output free.
+pub fn turn(
+    progress: Progress,
+    budget: u32,
+    free: usize,
+    cells: &mut [u8; 8],
+    places: &mut [u8; 8],
+    firsts: &mut [u8; 96],
+    store: &mut [u8],
+    piece: &[u8],
+) -> Turned
+    requires { ⌜ (Sized (now store)) × (progress .depth ≤ 8) × (waitingFits (progress .waiting) ≡ true) × (progress .at ≤ length (now piece)) ⌝ }
+    ensures left { λ r. ⌜ ((d : Drawing) (out : List ℕ) → leftOf budget (atDepth (r .progress .depth) progress) r (now (cells .exit)) (now (places .exit)) (now (firsts .exit)) d (now (store .exit)) out ≡ leaves (turn free (budget - progress .steps) (stateAt budget progress (now (cells .entry)) (now (places .entry)) (now (firsts .entry)) d (now (store .entry))) (drop (progress .at) (now (piece .entry)))) (progress .at) (progress .written) out) ⌝ }
+    ensures due { λ r. ⌜ Due (atDepth (r .progress .depth) progress) r ⌝ }
+    ensures room { λ r. ⌜ RoomBy (r .course) free ⌝ }
+{
+    let depth = depth_left(store, cells, places, progress.depth);
+    let at = progress.at;
+    let progress = at_depth(progress, depth);
+    if nothing_left(depth, piece, at) {
+        return ends(progress, Answer::Done);
+    }
+    if free < ROOM_FOR_STEP {
+        return ends(progress, Answer::Full);
+    }
+    if budget <= progress.steps {
+        return ends(progress, Answer::Refused(Refusal::BudgetUsed));
+    }
+    match next_byte(store, cells, places, depth, piece, at) {
+        Read::BadCell => ends(progress, Answer::Refused(Refusal::OutOfRange)),
+        Read::Byte(byte, cursor) => {
+            let next = Onward {
+                at: place_after(depth, at),
+                cursor,
+            };
+            interpret(progress, next, byte, cells, places, firsts, store)
+        }
+    }
+}
