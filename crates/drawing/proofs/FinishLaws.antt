@@ -1,8 +1,7 @@
 -- Commands finished and opened by numbers, with no operand begun.
 -- Assumes nothing.
 use Prim.Native.Nat.{ℕ, _+_, _≤_, _<_}
-use native.Mathlib.Omega.{arith}
-use mathlib.Core.Path.{_≡_, refl, sym, ap, _∙_}
+use mathlib.Core.Path.{_≡_, refl, sym, _∙_}
 use mathlib.Core.Bool.{Bool, true, false, _||_}
 use mathlib.Core.List.{List, [], _∷_, _++_}
 use lib.ListN.{length, set}
@@ -20,7 +19,7 @@ use Rattle.rules.specs.declared.Role.the-variants.{MoveTo, DrawTo, DrawBy, Midd
 use Rattle.rules.specs.declared.Row.{Row}
 use Rattle.rules.specs.Record.{words, bytesOf, flags, origin, recordOf, figure, mark}
 use Rattle.rules.specs.Drawing.{rowOf, roleOf, noOperand, Draw, arcTo, closingEdge, finish, opened, close, openCommand, act}
-use Rattle.rules.proofs.Bools.{true-false, pick-yes}
+use Rattle.rules.proofs.Bools.{true-false}
 use Rattle.records.specs.declared.Head.{Head}
 use Rattle.records.specs.Bytes.{overwrite, headBytes}
 use Rattle.records.proofs.Heads.{record-bytes, head-code, head-kind}

@@ -31,7 +31,7 @@ use Rattle.coordinates.specs.Data.{isData, allData, wholeOf}
 use Rattle.coordinates.proofs.WholeLaws.{data-range, all-at}
 use Rattle.figures.specs.Carried.{Carried, carry, drawingOf}
 use Rattle.drawing.specs.Run.{Run, none, standing}
-use Rattle.drawing.specs.Tracing.{Inks, penAt, isPoint}
+use Rattle.drawing.specs.Tracing.{penAt, isPoint}
 use Rattle.drawing.proofs.RunLaws.{whole-operand}
 
 -- What a point's operand draws does not depend on the operand that the pen keeps

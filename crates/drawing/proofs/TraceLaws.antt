@@ -1,12 +1,11 @@
 -- Points applied by numbers, carried out.
 -- Assumes nothing.
-use Prim.Native.Nat.{ℕ, suc, _+_, _<_}
+use Prim.Native.Nat.{ℕ, _+_, _<_}
 use native.Mathlib.Numerals.{add-one}
 use mathlib.Core.Path.{_≡_, refl, sym, ap, _∙_}
 use mathlib.Core.Bool.{Bool, true, false, _||_}
 use mathlib.Core.List.{List, [], _∷_, _++_}
-use lib.ListN.{length, set}
-use lib.Dec.{ltb}
+use lib.ListN.{set}
 use types.Run.{OneOf, miss}
 use denote.Enum.Declared.{tagOf}
 use borrow.Author.Tests.{eq-eqb, ne-eqb, lt-ltb, ltb-true}
@@ -23,13 +22,12 @@ use Rattle.rules.specs.declared.Row.{Row}
 use Rattle.rules.specs.Operands.{point, displaced, displacedOut}
 use Rattle.rules.specs.Record.{words, bytesOf, flags, origin, recordOf, figure}
 use Rattle.rules.specs.Drawing.{Outcome, Draw, withStart, withVertices, apply, drawFigure, arcMiddle, arcTo, edgeBy, mostVertices}
-use Rattle.rules.proofs.Bools.{false-true, pick-yes, pick-no}
+use Rattle.rules.proofs.Bools.{false-true}
 use Rattle.records.specs.declared.Head.{Head}
 use Rattle.records.specs.Bytes.{overwrite, headBytes}
 use Rattle.records.proofs.Heads.{record-bytes, head-kind}
 use Rattle.figures.specs.Carried.{Carried, carry, drawingOf}
 use Rattle.figures.proofs.Carrying.{carry-none, carry-one}
-use Rattle.drawing.specs.Run.{standing}
 use Rattle.drawing.specs.Tracing.{Inks, penAt, isRelative, aim, strays, isPoint}
 
 -- The bytes of a figure, its head made from the ink

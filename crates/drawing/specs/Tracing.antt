@@ -72,10 +72,6 @@ isForeground Dropped = false
 abbrev pub asked : ℕ → Action
 asked b = pick (ltb b 32) (Control b) (Opcode b)
 
--- The command that it leaves open
-abbrev pub nextOf : ℕ → Point → Command
-nextOf b p = pick (ltb b 32) (opened 0 origin) (opened b p)
-
 -- The operands that are counted from the drawing point
 unfoldable pub isRelative : Role → Bool
 isRelative MoveTo = false

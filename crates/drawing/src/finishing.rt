@@ -26,7 +26,7 @@ ghost use Rattle.rules.specs.Drawing.{rowOf, roleOf, noOperand, finish, closing
 ghost use Rattle.records.specs.Bytes.{overwrite};
 ghost use Rattle.figures.specs.Carried.{carryOut, drawingOf};
 ghost use Rattle.drawing.specs.Run.{standing};
-ghost use Rattle.drawing.specs.Tracing.{Inks, penAt, FinishesBy, isForeground, asked, nextOf};
+ghost use Rattle.drawing.specs.Tracing.{Inks, penAt, FinishesBy, isForeground, asked};
 
 // The place after the record of finishing, and the drawing point.
 pub struct Finished {

@@ -18,7 +18,7 @@ use Rattle.rules.specs.Step.{State}
 use Rattle.rules.specs.Bodies.{depthLeft}
 use Rattle.rules.specs.Drawing.{act}
 use Rattle.rules.specs.Reading.{Room, roomForStep, reading}
-use Rattle.rules.specs.Calls.{Handed, handed}
+use Rattle.rules.specs.Calls.{handed}
 use Rattle.rules.proofs.Steps.{Valid}
 use Rattle.figures.specs.declared.Drawn.{Drawn}
 use Rattle.figures.specs.Carried.{carry, drawingOf, carriedOf}

@@ -17,13 +17,12 @@ use Rattle.rules.specs.declared.Coding.{Coding}
 use Rattle.rules.specs.declared.Cursor.{Cursor}
 use Rattle.rules.specs.declared.Drawing.{Drawing}
 use Rattle.rules.specs.declared.Record.{Record}
-use Rattle.rules.specs.declared.Set.{Set}
 use Rattle.rules.specs.declared.Set.the-variants.{Macro}
 use Rattle.rules.specs.declared.Status.the-variants.{Running}
 use Rattle.rules.specs.declared.Waiting.{Waiting}
 use Rattle.rules.specs.declared.Waiting.the-variants.{Nothing}
 use Rattle.rules.specs.Choice.{pick}
-use Rattle.rules.specs.Bodies.{bodyAt, withBody, hasLeft, depthLeft, unspent, readBody, mostDepth}
+use Rattle.rules.specs.Bodies.{bodyAt, hasLeft, depthLeft, unspent}
 use Rattle.rules.specs.Coding.{React, setOf, wait, graphic, classOf, reactTo, react, afterEscape}
 use Rattle.rules.specs.Drawing.{Draw, act}
 use Rattle.rules.specs.Record.{bytesOfAll}
@@ -36,9 +35,9 @@ use Rattle.bodies.specs.Stack.{bodiesOf}
 use Rattle.bodies.specs.Calls.{NamesEmpty, CallsEmpty}
 use Rattle.figures.specs.Carried.{Carried, carry}
 use Rattle.drawing.specs.Run.{ActsAs, Run, none as run-none, more as run-more}
-use Rattle.coding.specs.Idle.{Coded, coded, Idle, none as idle-none, more as idle-more}
+use Rattle.coding.specs.Idle.{Coded, Idle, none as idle-none, more as idle-more}
 use Rattle.turns.specs.Turn.{Steps, onMove, onSought, turn}
-use Rattle.turns.specs.Walk.{Place, placed, budgetLeft, Walk, none, removed, step}
+use Rattle.turns.specs.Walk.{Place, placed, Walk, none, step}
 
 -- A byte that is found and accepted, in a state with so much left of the budget
 turn-found : (room n : ℕ) (w : State) (bs : List ℕ) {m b : ℕ} {v u : State} {s : Source} {r : List ℕ} {rs : List Record}

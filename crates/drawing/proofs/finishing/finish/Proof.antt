@@ -5,8 +5,6 @@ use Rattle.drawing.proofs.TraceLaws.{wrote, wrote-none, by-rule}
 use Rattle.drawing.proofs.FinishLaws.{finish-arc, finish-edge, finish-plain}
 use Rattle.drawing.proofs.finishing.finish.Statement.{statement}
 use Rattle.drawing.proofs.finishing.finish.Tie as tie
-use Rattle.drawing.proofs.finishing.finish_polygon.Reads as finish-polygon-reads
-use Rattle.drawing.proofs.tracing.put_arc.Reads as put-arc-reads
 
 enum-told : tie.Need-enum-told
 enum-told c = search needs

@@ -5,8 +5,6 @@ use Rattle.drawing.proofs.FinishLaws.{polygon-none, polygon-closed}
 use borrow.Author.Needs.{needs}
 use Rattle.drawing.proofs.finishing.finish_polygon.Statement.{statement}
 use Rattle.drawing.proofs.finishing.finish_polygon.Tie as tie
-use Rattle.drawing.proofs.tracing.put_figure.Reads as put-figure-reads
-use Rattle.records.proofs.flags.Reads as flags-reads
 
 returns : tie.Need-returns
 returns c =

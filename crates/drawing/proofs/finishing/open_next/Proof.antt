@@ -6,11 +6,6 @@ use Rattle.rules.specs.Drawing.{rowOf}
 use Rattle.drawing.proofs.FinishLaws.{closed, next-control, next-marked, next-plain}
 use Rattle.drawing.proofs.finishing.open_next.Statement.{statement}
 use Rattle.drawing.proofs.finishing.open_next.Tie as tie
-use Rattle.drawing.proofs.closing.opened.Reads as opened-reads
-use Rattle.drawing.proofs.finishing.finish.Reads as finish-reads
-use Rattle.drawing.proofs.finishing.put_mark.Reads as put-mark-reads
-use Rattle.drawing.proofs.operands.role_due.Reads as role-due-reads
-use Rattle.tables.proofs.opcodes.row_of.Reads as row-of-reads
 
 role-due-requires : tie.Need-role-due-requires
 role-due-requires c κs = search needs

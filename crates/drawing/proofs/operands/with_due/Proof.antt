@@ -1,7 +1,6 @@
 use borrow.Author.Needs.{needs}
 use Rattle.drawing.proofs.operands.with_due.Statement.{statement}
 use Rattle.drawing.proofs.operands.with_due.Tie as tie
-use Rattle.tables.proofs.opcodes.due_after.Reads as due-after-reads
 
 due-after-requires : tie.Need-due-after-requires
 due-after-requires c κs = search needs

@@ -14,11 +14,6 @@ use Rattle.drawing.specs.Tracing.{Inks}
 use Rattle.drawing.proofs.PointLaws.{points-none, points-on}
 use Rattle.drawing.proofs.points.trace_points.Statement.{statement}
 use Rattle.drawing.proofs.points.trace_points.Tie as tie
-use Rattle.drawing.proofs.operands.role_due.Reads as role-due-reads
-use Rattle.drawing.proofs.operands.with_due.Reads as with-due-reads
-use Rattle.drawing.proofs.points.point_due.Reads as point-due-reads
-use Rattle.drawing.proofs.points.resting.Reads as resting-reads
-use Rattle.drawing.proofs.tracing.trace.Reads as trace-reads
 
 abbrev Inv-loop : tie.InvT-loop
 Inv-loop row ink pel n three bytes from to out₀ at i₀ at₀ pen₀ command₀ out i at′ pen command =

@@ -5,8 +5,6 @@ use Rattle.drawing.proofs.TraceLaws.{wrote}
 use borrow.Author.Needs.{needs}
 use Rattle.drawing.proofs.tracing.arc_end.Statement.{statement}
 use Rattle.drawing.proofs.tracing.arc_end.Tie as tie
-use Rattle.drawing.proofs.tracing.either.Reads as either-reads
-use Rattle.drawing.proofs.tracing.put_arc.Reads as put-arc-reads
 
 put-arc-requires : tie.Need-put-arc-requires
 put-arc-requires c κs = search needs

@@ -1,8 +1,6 @@
 use borrow.Author.Needs.{needs}
 use Rattle.drawing.proofs.tracing.put_arc.Statement.{statement}
 use Rattle.drawing.proofs.tracing.put_arc.Tie as tie
-use Rattle.drawing.proofs.tracing.put_figure.Reads as put-figure-reads
-use Rattle.records.proofs.flags.Reads as flags-reads
 
 either-requires : tie.Need-either-requires
 either-requires c κs = search needs

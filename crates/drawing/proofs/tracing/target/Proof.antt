@@ -3,8 +3,6 @@ use Rattle.rules.proofs.Bools.{pick-yes, pick-no}
 use borrow.Author.Needs.{needs}
 use Rattle.drawing.proofs.tracing.target.Statement.{statement}
 use Rattle.drawing.proofs.tracing.target.Tie as tie
-use Rattle.coordinates.proofs.displace.Reads as displace-reads
-use Rattle.drawing.proofs.tracing.is_relative.Reads as is-relative-reads
 
 is-relative-requires : tie.Need-is-relative-requires
 is-relative-requires c κs = search needs

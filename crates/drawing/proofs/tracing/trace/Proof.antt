@@ -6,12 +6,6 @@ use Rattle.drawing.proofs.TraceLaws.{wrote-none, by-rule, apply-move, a
 use borrow.Author.Needs.{needs}
 use Rattle.drawing.proofs.tracing.trace.Statement.{statement}
 use Rattle.drawing.proofs.tracing.trace.Tie as tie
-use Rattle.drawing.proofs.tracing.arc_end.Reads as arc-end-reads
-use Rattle.drawing.proofs.tracing.edge.Reads as edge-reads
-use Rattle.drawing.proofs.tracing.stroke.Reads as stroke-reads
-use Rattle.drawing.proofs.tracing.target.Reads as target-reads
-use Rattle.drawing.proofs.tracing.with_middle.Reads as with-middle-reads
-use Rattle.drawing.proofs.tracing.with_start.Reads as with-start-reads
 
 target-requires : tie.Need-target-requires
 target-requires c κs = search needs

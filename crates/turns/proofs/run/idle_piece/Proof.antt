@@ -1,5 +1,4 @@
 use denote.Ref.{now}
-use native.Mathlib.Omega.{arith}
 use Rattle.turns.proofs.ProgressLaws.{walk-idle, coded-most}
 use borrow.Author.Needs.{needs}
 use Rattle.turns.proofs.run.idle_piece.Statement.{statement}

@@ -1,5 +1,4 @@
 use Rattle.turns.proofs.StepLaws.{draws-left, draws-due}
-use borrow.Author.Needs.{needs}
 use Rattle.turns.proofs.step.draws.Statement.{statement}
 use Rattle.turns.proofs.step.draws.Tie as tie
 

@@ -1,6 +1,5 @@
 use Rattle.turns.proofs.StepLaws.{idle-goes}
 use denote.Ref.{now}
-use borrow.Author.Needs.{needs}
 use Rattle.turns.proofs.step.idle.Statement.{statement}
 use Rattle.turns.proofs.step.idle.Tie as tie
 
