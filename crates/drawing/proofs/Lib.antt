@@ -3,11 +3,3 @@ pub mod RangeLaws
 pub mod OperandLaws
 pub mod ClosingLaws
 pub mod ActionLaws
-pub mod TextLaws
-pub mod TraceLaws
-pub mod ActsLaws
-pub mod RunLaws
-pub mod PointLaws
-pub mod FinishLaws
-pub mod StrokeLaws
-pub mod PdiLaws

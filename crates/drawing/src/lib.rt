@@ -1,15 +1,7 @@
 // The drawing layer: an action becomes records and a change of the drawing state, or a refusal.
 pub mod closing;
-pub mod commands;
-pub mod finishing;
 pub mod operands;
-pub mod pdi;
-pub mod points;
 pub mod ranges;
-pub mod runs;
-pub mod strokes;
-pub mod text;
-pub mod tracing;
 
 use crate::closing::close;
 use crate::closing::opened;

@@ -30,7 +30,7 @@ use Rattle.reader.specs.declared.feed.Fed.{Fed}
 use Rattle.turns.specs.Turn.{turn, Left, leaves}
 use Rattle.turns.specs.View.{stateAt, answered, sessionAfter, leftOf, startOf, atDepth, writtenTo, DueBy, Due, RoomBy, readOnIf}
 use Rattle.reader.specs.Handing.{stateLent, handedOf, fedOf}
-use Rattle.drawing.specs.declared.runs.Ran.{Ran}
+use Rattle.runs.specs.declared.Ran.{Ran}
 use Rattle.turns.specs.Walk.{placeAt, Walk, placeAfter, ranOn}
 use Rattle.turns.proofs.StepLaws.{draw-refused, draw-goes}
 use Rattle.reader.proofs.WalkLaws.{walk-keeps}

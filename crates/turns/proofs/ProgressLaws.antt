@@ -29,8 +29,8 @@ use Rattle.macros.specs.Stretch.{Gives}
 use Rattle.bodies.specs.Stack.{bodiesOf}
 use Rattle.bodies.specs.Calls.{CallsEmpty}
 use Rattle.figures.specs.Carried.{drawingOf}
-use Rattle.drawing.specs.Run.{Run, standing}
-use Rattle.drawing.specs.declared.runs.Ran.{Ran}
+use Rattle.runs.specs.Run.{Run, standing}
+use Rattle.runs.specs.declared.Ran.{Ran}
 use Rattle.coding.specs.View.{codingOf}
 use Rattle.coding.specs.Idle.{Idle, coded}
 use Rattle.coding.specs.declared.idle.Idled.{Idled}

@@ -12,7 +12,7 @@ use Rattle.rules.specs.Step.{State, removeSpent, Source}
 use Rattle.rules.specs.Reading.{consumedBy}
 use Rattle.records.specs.Bytes.{overwrite}
 use Rattle.macros.specs.Lent.{Sized}
-use Rattle.drawing.specs.declared.runs.Ran.{Ran}
+use Rattle.runs.specs.declared.Ran.{Ran}
 use Rattle.turns.specs.declared.step.Progress.{Progress}
 use Rattle.turns.specs.Turn.{Steps, turn}
 use Rattle.turns.specs.View.{stateAt}

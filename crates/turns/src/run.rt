@@ -5,9 +5,9 @@ use bodies::body_at;
 use bodies::calls::empty_calls;
 use bodies::set_body;
 use coding::idle::run_idle;
-use drawing::pdi::run_pdi;
-use drawing::runs::Ran;
-use drawing::text::run_text;
+use runs::pdi::run_pdi;
+use runs::Ran;
+use runs::text::run_text;
 use macros::cursors::stretch_of;
 use rules::Command;
 use rules::Cursor;
@@ -29,7 +29,7 @@ ghost use Rattle.rules.specs.Ranges.{waitingFits, domainFits, commandFits};
 ghost use Rattle.rules.specs.Reading.{roomForStep};
 ghost use Rattle.macros.specs.Lent.{Sized};
 ghost use Rattle.figures.specs.Carried.{drawingOf};
-ghost use Rattle.drawing.specs.Run.{Run, standing};
+ghost use Rattle.runs.specs.Run.{Run, standing};
 ghost use Rattle.turns.specs.Walk.{placeAt, Walk, Fit, placeAfter, ranOn, codedOn};
 
 // How far a run may go: to the end of its bytes, as far as the budget lasts.

@@ -1,4 +1,4 @@
-use Rattle.drawing.specs.Run.{none}
+use Rattle.runs.specs.Run.{none}
 use native.Mathlib.Omega.{arith}
 use mathlib.Core.Path.{ap}
 use borrow.Author.Needs.{needs}

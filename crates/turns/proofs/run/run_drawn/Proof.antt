@@ -7,7 +7,7 @@ use native.Mathlib.Omega.{arith}
 use borrow.Author.Tests.{not-false}
 use Rattle.turns.proofs.ProgressLaws.{after-piece, after-body, none-drawn-walk, none-drawn-most}
 use mathlib.Core.Path.{ap}
-use Rattle.drawing.specs.declared.runs.Ran.{Ran}
+use Rattle.runs.specs.declared.Ran.{Ran}
 use borrow.Author.Needs.{needs}
 use Rattle.turns.proofs.run.run_drawn.Statement.{statement}
 use Rattle.turns.proofs.run.run_drawn.Tie as tie

@@ -1,0 +1,125 @@
+// Runs of characters.
+use drawing::closing::opened;
+use drawing::operands::rested;
+use crate::Ran;
+use figures::answers::ORIGIN;
+use records::head_of;
+use records::put_words;
+use records::set_number;
+use records::with_code;
+use rules::Command;
+use rules::Look;
+use rules::Pen;
+use rules::Repertoire;
+use rules::Set;
+ghost use mathlib.Core.Path.{_≡_};
+ghost use mathlib.Core.List.{List};
+ghost use Prim.Native.Nat.{ℕ, _+_, _*_, _<_, _≤_};
+ghost use lib.ListN.{length};
+ghost use Rattle.rules.specs.Reading.{roomForStep};
+ghost use Rattle.runs.specs.Run.{Run, standing};
+ghost use Rattle.runs.specs.Text.{lastCharacter, typed};
+
+// 7/15 of the primary and supplementary sets does nothing.
+fn last_character(set: Repertoire) -> u8
+    ensures { λ r. ⌜ r ≡ lastCharacter set ⌝ }
+{
+    match set {
+        Repertoire::Primary => 126,
+        Repertoire::Supplementary => 126,
+        Repertoire::Mosaic => 127,
+        Repertoire::Drcs => 127,
+    }
+}
+
+// How many characters can be read before the bytes end, or the room for a step.
+fn most_characters(left: usize, room: usize) -> usize
+    ensures { λ r. ⌜ (r ≤ left) × ((n : ℕ) → n < r → 40 * n + roomForStep ≤ room) ⌝ }
+{
+    if room < 120 {
+        return 0;
+    }
+    let places = (room - 80) / 40;
+    if left < places {
+        return left;
+    }
+    places
+}
+
+// Writes the records of at most so many characters. What they leave does not change after the first.
+fn put_characters(
+    set: Repertoire,
+    pen: Pen,
+    command: Command,
+    look: Look,
+    bytes: &[u8],
+    from: usize,
+    most: usize,
+    out: &mut [u8],
+    at: usize,
+) -> usize
+    requires { ⌜ (command .opcode ≡ 0) × (from + most ≤ length (now bytes)) × ((n : ℕ) → n < most → at + (40 * n + roomForStep) ≤ length (now out)) ⌝ }
+    ensures run { λ r. ⌜ ((m : List ℕ) → Run (Set.Characters set) (now (bytes .entry)) from (standing pen command look m at (now (out .entry))) r (typed r pen command look m at (now (out .exit)))) ⌝ }
+    ensures most { λ r. ⌜ r ≤ most ⌝ }
+{
+    let last = last_character(set);
+    let head = head_of(look, 6, 0, set_number(set), 0);
+    let point = pen.point;
+    let domain = look.domain;
+    let pel = domain.pel;
+    let mut count: usize = 0;
+    while count < most {
+        let code = bytes[from + count];
+        if code < 32 {
+            return count;
+        }
+        if last < code {
+            return count;
+        }
+        put_words(
+            out,
+            at + 40 * count,
+            with_code(head, code),
+            point,
+            ORIGIN,
+            ORIGIN,
+            pel,
+        );
+        count += 1;
+    }
+    count
+}
+
+// Characters one after the other while no command is open.
+pub fn run_text(
+    set: Repertoire,
+    pen: Pen,
+    command: Command,
+    look: Look,
+    bytes: &[u8],
+    from: usize,
+    to: usize,
+    out: &mut [u8],
+    at: usize,
+) -> Ran
+    requires { ⌜ (command .opcode ≡ 0) × (from ≤ to) × (to ≤ length (now bytes)) × (at ≤ length (now out)) ⌝ }
+    ensures ran { λ r. ⌜ ((m : List ℕ) → Run (Set.Characters set) (now (bytes .entry)) from (standing pen command look m at (now (out .entry))) (r .count) (standing (r .pen) (r .command) look m (r .at) (now (out .exit)))) ⌝ }
+    ensures most { λ r. ⌜ from + r .count ≤ to ⌝ }
+{
+    let most = most_characters(to - from, out.len() - at);
+    let count = put_characters(set, pen, command, look, bytes, from, most, out, at);
+    if count == 0 {
+        return Ran {
+            count,
+            at,
+            pen,
+            command,
+        };
+    }
+    Ran {
+        count,
+        at: at + 40 * count,
+        pen: rested(pen),
+        command: opened(0, ORIGIN),
+    }
+}
