@@ -1,18 +1,20 @@
 -- A walk: turns of a reading that are taken one after the other, each an accepted step
-use Prim.Native.Nat.{ℕ, zero, suc, _+_, _-_, _≤_}
+use Prim.Native.Nat.{ℕ, zero, suc, _+_, _-_, _<_, _≤_}
 use mathlib.Core.List.{List}
 use mathlib.Core.Path.{_≡_}
-use lib.ListN.{length, drop}
+use lib.ListN.{length, drop, getD, set}
 use Rattle.rules.specs.declared.Drawing.{Drawing}
 use Rattle.rules.specs.declared.Record.{Record}
 use Rattle.rules.specs.declared.Sets.{Sets}
 use Rattle.rules.specs.declared.Waiting.{Waiting}
+use Rattle.rules.specs.Bodies.{bodyAt}
 use Rattle.rules.specs.Record.{bytesOfAll}
 use Rattle.rules.specs.Step.{State, removeSpent, Source}
 use Rattle.rules.specs.Reading.{consumedBy}
 use Rattle.records.specs.Bytes.{overwrite}
 use Rattle.macros.specs.Lent.{Sized}
-use Rattle.runs.specs.declared.Ran.{Ran}
+use Rattle.macros.specs.Stretch.{Gives}
+use Rattle.bodies.specs.Stack.{bodiesOf}
 use Rattle.turns.specs.declared.step.Progress.{Progress}
 use Rattle.turns.specs.Turn.{Steps, turn}
 use Rattle.turns.specs.View.{stateAt}
@@ -53,17 +55,44 @@ abbrev pub placeAfter : ℕ → ℕ → ℕ → ℕ
 placeAfter zero n at = at + n
 placeAfter (suc i) n at = at
 
--- The progress after a run of bytes that are drawn, with the place of the piece after them
-abbrev pub ranOn : ℕ → Ran → Progress → Progress
-ranOn at r p =
+-- The bytes that a run reads from: the piece where no body runs, else the store
+abbrev pub sourceOf : ℕ → List ℕ → List ℕ → List ℕ
+sourceOf zero piece st = piece
+sourceOf (suc i) piece st = st
+
+-- So many bytes on in the innermost body's cell
+abbrev pub placesAfter : ℕ → ℕ → List ℕ → List ℕ
+placesAfter zero n places = places
+placesAfter (suc i) n places = set places i (getD places i 0 + n)
+
+-- The places are bytes
+abbrev pub Passes : ℕ → ℕ → List ℕ → Type 0
+Passes d n places = (i : ℕ) → d ≡ suc i → (i < length places) × (getD places i 0 + n < 256) × (n < 256)
+
+-- The bytes that are read next, with the piece at a place, lie from here to there in their source
+abbrev pub Lies : ℕ → ℕ → List ℕ → List ℕ → List ℕ → List ℕ → ℕ → ℕ → Type 0
+Lies zero at cells places st piece from to = (from ≡ at) × (from ≤ to) × (to ≤ length piece)
+Lies (suc i) at cells places st piece from to =
+    (from ≤ to)
+    × (to ≤ length st)
+    × ((n : ℕ) → from + n ≤ to → Passes (suc i) n places)
+    × ((k : ℕ) → from + k < to → Gives st (bodyAt (bodiesOf (suc i) cells places) i) from k)
+
+-- The progress after a run of so many drawn bytes, with the place after their records
+abbrev pub ranOn : ℕ → ℕ → Progress → Progress
+ranOn n written p =
     record {
-      at = at;
-      written = r .at;
-      steps = p .steps + r .count;
+      at = placeAfter (p .depth) n (p .at);
+      written = written;
+      steps = p .steps + n;
       depth = p .depth;
       sets = p .sets;
       waiting = p .waiting;
     }
+
+-- So many bytes are not more than the budget and the piece have
+abbrev pub Most : ℕ → ℕ → Progress → List ℕ → Type 0
+Most n budget p piece = (n ≤ budget - p .steps) × (placeAfter (p .depth) n (p .at) ≤ length piece) × (p .steps + n ≤ 4294967295)
 
 -- After a run of bytes of the piece that write no record
 abbrev pub codedOn : ℕ → ℕ → Sets → Waiting → Progress → Progress

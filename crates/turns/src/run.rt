@@ -1,13 +1,19 @@
 // Runs: consecutive bytes read at once, beside the turns of a reading. A run may end before any byte, since a turn follows.
 use crate::step::Progress;
 use crate::turn::ROOM_FOR_STEP;
+use crate::turn::at_depth;
 use bodies::body_at;
 use bodies::calls::empty_calls;
+use bodies::depth_left;
 use bodies::set_body;
 use coding::idle::run_idle;
-use runs::pdi::run_pdi;
+use runs::commands::is_stroke;
+use runs::commands::run_commands;
 use runs::Ran;
+use runs::strokes;
+use runs::strokes::Lined;
 use runs::text::run_text;
+use macros::cursors::Stretch;
 use macros::cursors::stretch_of;
 use rules::Command;
 use rules::Cursor;
@@ -17,6 +23,7 @@ use rules::Repertoire;
 use rules::Set;
 use rules::Sets;
 use rules::Waiting;
+use tables::controls::is_recorded;
 use tables::sets::set_of;
 ghost use mathlib.Core.Path.{_≡_};
 ghost use mathlib.Core.Bool.{true};
@@ -30,7 +37,8 @@ ghost use Rattle.rules.specs.Reading.{roomForStep};
 ghost use Rattle.macros.specs.Lent.{Sized};
 ghost use Rattle.figures.specs.Carried.{drawingOf};
 ghost use Rattle.runs.specs.Run.{Run, standing};
-ghost use Rattle.turns.specs.Walk.{placeAt, Walk, Fit, placeAfter, ranOn, codedOn};
+ghost use Rattle.runs.specs.Strokes.{penAfter};
+ghost use Rattle.turns.specs.Walk.{placeAt, Walk, Fit, sourceOf, Lies, Passes, placesAfter, placeAfter, ranOn, Most, codedOn};
 
 // How far a run may go: to the end of its bytes, as far as the budget lasts.
 fn reach(from: usize, end: usize, budget: u32, steps: u32) -> usize
@@ -85,7 +93,7 @@ fn draw_pdi(
     if pen.operand.count != 0 {
         return none_drawn(pen, command, at);
     }
-    run_pdi(pen, command, look, bytes, from, to, out, at)
+    run_commands(pen, command, look, bytes, from, to, out, at)
 }
 
 // Characters, where no command is open.
@@ -143,78 +151,154 @@ fn draw_set(
     }
 }
 
-// Bytes of the piece.
-fn draw_piece(
-    set: Set,
-    progress: Progress,
-    pen: Pen,
-    command: Command,
-    look: Look,
-    budget: u32,
-    piece: &[u8],
-    out: &mut [u8],
-) -> Ran
-    requires { ⌜ (progress .depth ≡ 0) × (progress .waiting ≡ Waiting.Nothing) × (set ≡ setOf (progress .sets .used) (progress .sets)) × (domainFits (look .domain) ≡ true) × (commandFits command ≡ true) × (progress .at ≤ length (now piece)) × (progress .written ≤ length (now out)) ⌝ }
-    ensures walk { λ r. ⌜ ((cells places firsts map st : List ℕ) → Walk (now (piece .entry)) (placeAt budget progress cells places firsts (drawingOf pen command look map) st (now (out .entry))) (placeAt budget (ranOn (progress .at + r .count) r progress) cells places firsts (drawingOf (r .pen) (r .command) look map) st (now (out .exit)))) ⌝ }
-    ensures most { λ r. ⌜ (r .count ≤ budget - progress .steps) × (progress .at + r .count ≤ length (now (piece .entry))) ⌝ }
+// The bytes that the next step reads from.
+fn source_of<'a>(depth: u8, piece: &'a [u8], store: &'a [u8]) -> &'a [u8]
+    ensures { λ r. ⌜ now r ≡ sourceOf depth (now (piece .entry)) (now (store .entry)) ⌝ }
 {
-    let at = progress.at;
-    let to = reach(at, piece.len(), budget, progress.steps);
-    draw_set(
-        set,
-        pen,
-        command,
-        look,
-        piece,
-        at,
-        to,
-        out,
-        progress.written,
-    )
+    if depth == 0 {
+        return piece;
+    }
+    store
 }
 
-// Bytes of the innermost body, as far as its cell holds them.
-fn draw_body(
-    set: Set,
+// Where they lie: in the cell of the innermost body, else in the piece.
+fn stretch_next(
+    progress: Progress,
+    cells: &[u8; 8],
+    places: &[u8; 8],
+    store: &[u8],
+    end: usize,
+) -> Stretch
+    requires { ⌜ (Sized (now store)) × (progress .depth ≤ 8) × (progress .at ≤ end) ⌝ }
+    ensures { λ r. ⌜ ((piece : List ℕ) → end ≡ length piece → Lies (progress .depth) (progress .at) (now (cells .entry)) (now (places .entry)) (now (store .entry)) piece (r .from) (r .to)) ⌝ }
+{
+    if progress.depth == 0 {
+        return Stretch {
+            from: progress.at,
+            to: end,
+        };
+    }
+    stretch_of(store, body_at(cells, places, progress.depth - 1))
+}
+
+// The same, as far as the budget lasts.
+fn bytes_next(
+    progress: Progress,
+    budget: u32,
+    cells: &[u8; 8],
+    places: &[u8; 8],
+    store: &[u8],
+    end: usize,
+) -> Stretch
+    requires { ⌜ (Sized (now store)) × (progress .depth ≤ 8) × (progress .at ≤ end) ⌝ }
+    ensures lies { λ r. ⌜ ((piece : List ℕ) → end ≡ length piece → Lies (progress .depth) (progress .at) (now (cells .entry)) (now (places .entry)) (now (store .entry)) piece (r .from) (r .to)) ⌝ }
+    ensures few { λ r. ⌜ r .to - r .from ≤ budget - progress .steps ⌝ }
+{
+    let stretch = stretch_next(progress, cells, places, store, end);
+    Stretch {
+        from: stretch.from,
+        to: reach(stretch.from, stretch.to, budget, progress.steps),
+    }
+}
+
+// The innermost body is read on by so many bytes of its cell.
+fn read_past(depth: u8, count: usize, places: &mut [u8; 8])
+    requires { ⌜ (depth ≤ 8) × Passes depth count (now places) ⌝ }
+    ensures { λ _. ⌜ now (places .exit) ≡ placesAfter depth count (now (places .entry)) ⌝ }
+{
+    if depth == 0 {
+        return;
+    }
+    let index = (depth - 1) as usize;
+    places[index] = places[index] + (count as u8);
+}
+
+// The set that bytes are read from where nothing is waited for.
+fn set_read(progress: Progress) -> Set
+    ensures { λ r. ⌜ r ≡ setOf (progress .sets .used) (progress .sets) ⌝ }
+{
+    let sets = progress.sets;
+    let used = sets.used;
+    set_of(used, sets)
+}
+
+// Whether points of POINT SET or LINE, absolute, may be read.
+fn strokes_open(progress: Progress, opcode: u8) -> bool
+    ensures { λ r. ⌜ (r ≡ true → (progress .waiting ≡ Waiting.Nothing) × (setOf (progress .sets .used) (progress .sets) ≡ Set.Pdi)) ⌝ }
+{
+    if !is_stroke(opcode) {
+        return false;
+    }
+    let waiting = progress.waiting;
+    if !awaits_nothing(waiting) {
+        return false;
+    }
+    if let Set::Pdi = set_read(progress) {
+        return true;
+    }
+    false
+}
+
+// A run of strokes can only begin with data.
+fn begins_with_data(bytes: &[u8], from: usize, to: usize) -> bool
+    requires { ⌜ to ≤ length (now bytes) ⌝ }
+{
+    if to <= from {
+        return false;
+    }
+    64 <= bytes[from]
+}
+
+// A control that is not recorded draws nothing.
+fn begins_drawn(bytes: &[u8], from: usize, to: usize) -> bool
+    requires { ⌜ to ≤ length (now bytes) ⌝ }
+{
+    if to <= from {
+        return false;
+    }
+    32 <= bytes[from] || is_recorded(bytes[from])
+}
+
+fn no_strokes(pen: Pen, at: usize) -> Lined
+    ensures { λ r. ⌜ r ≡ record { count = 0; at = at; point = pen .point } ⌝ }
+{
+    let point = pen.point;
+    Lined {
+        count: 0,
+        at,
+        point,
+    }
+}
+
+// Points of POINT SET and LINE, of the innermost body, else of the piece. The command stays as it is.
+pub fn run_strokes(
     progress: Progress,
     pen: Pen,
     command: Command,
     look: Look,
     budget: u32,
-    cells: &mut [u8; 8],
+    cells: &[u8; 8],
     places: &mut [u8; 8],
     store: &[u8],
+    piece: &[u8],
     out: &mut [u8],
-) -> Ran
-    requires { ⌜ (Sized (now store)) × (1 ≤ progress .depth) × (progress .depth ≤ 8) × (progress .waiting ≡ Waiting.Nothing) × (set ≡ setOf (progress .sets .used) (progress .sets)) × (domainFits (look .domain) ≡ true) × (commandFits command ≡ true) × (progress .written ≤ length (now out)) ⌝ }
-    ensures walk { λ r. ⌜ ((piece firsts map : List ℕ) → Walk piece (placeAt budget progress (now (cells .entry)) (now (places .entry)) firsts (drawingOf pen command look map) (now (store .entry)) (now (out .entry))) (placeAt budget (ranOn (progress .at) r progress) (now (cells .exit)) (now (places .exit)) firsts (drawingOf (r .pen) (r .command) look map) (now (store .entry)) (now (out .exit)))) ⌝ }
-    ensures most { λ r. ⌜ r .count ≤ budget - progress .steps ⌝ }
+) -> Lined
+    requires { ⌜ Fit progress (now store) (now piece) (now out) ⌝ }
+    ensures walk { λ r. ⌜ ((firsts map : List ℕ) → Walk (now (piece .entry)) (placeAt budget progress (now (cells .entry)) (now (places .entry)) firsts (drawingOf pen command look map) (now (store .entry)) (now (out .entry))) (placeAt budget (ranOn (r .count) (r .at) progress) (now (cells .entry)) (now (places .exit)) firsts (drawingOf (penAfter (r .count) pen (r .point)) command look map) (now (store .entry)) (now (out .exit)))) ⌝ }
+    ensures most { λ r. ⌜ Most (r .count) budget progress (now (piece .entry)) ⌝ }
+    ensures still { λ r. ⌜ (r .count ≡ 0 → r .at ≡ progress .written) ⌝ }
 {
-    let index = progress.depth - 1;
-    let cursor = body_at(cells, places, index);
-    let stretch = stretch_of(store, cursor);
-    let to = reach(stretch.from, stretch.to, budget, progress.steps);
-    let ran = draw_set(
-        set,
-        pen,
-        command,
-        look,
-        store,
-        stretch.from,
-        to,
-        out,
-        progress.written,
-    );
-    let place = cursor.place + (ran.count as u8);
-    set_body(
-        cells,
-        places,
-        index,
-        Cursor {
-            cell: cursor.cell,
-            place,
-        },
-    );
+    if !strokes_open(progress, command.opcode) {
+        return no_strokes(pen, progress.written);
+    }
+    let next = bytes_next(progress, budget, cells, places, store, piece.len());
+    let bytes = source_of(progress.depth, piece, store);
+    if !begins_with_data(bytes, next.from, next.to) {
+        return no_strokes(pen, progress.written);
+    }
+    let at = progress.written;
+    let ran = strokes::run_strokes(pen, command, look, bytes, next.from, next.to, out, at);
+    read_past(progress.depth, ran.count, places);
     ran
 }
 
@@ -225,51 +309,43 @@ pub fn run_drawn(
     command: Command,
     look: Look,
     budget: u32,
-    cells: &mut [u8; 8],
+    cells: &[u8; 8],
     places: &mut [u8; 8],
     store: &[u8],
     piece: &[u8],
     out: &mut [u8],
 ) -> Ran
     requires { ⌜ (Fit progress (now store) (now piece) (now out)) × (domainFits (look .domain) ≡ true) × (commandFits command ≡ true) ⌝ }
-    ensures walk { λ r. ⌜ ((firsts map : List ℕ) → Walk (now (piece .entry)) (placeAt budget progress (now (cells .entry)) (now (places .entry)) firsts (drawingOf pen command look map) (now (store .entry)) (now (out .entry))) (placeAt budget (ranOn (placeAfter (progress .depth) (r .count) (progress .at)) r progress) (now (cells .exit)) (now (places .exit)) firsts (drawingOf (r .pen) (r .command) look map) (now (store .entry)) (now (out .exit)))) ⌝ }
-    ensures most { λ r. ⌜ (r .count ≤ budget - progress .steps) × (placeAfter (progress .depth) (r .count) (progress .at) ≤ length (now (piece .entry))) ⌝ }
-    ensures steps { λ r. ⌜ progress .steps + r .count ≤ 4294967295 ⌝ }
+    ensures walk { λ r. ⌜ ((firsts map : List ℕ) → Walk (now (piece .entry)) (placeAt budget progress (now (cells .entry)) (now (places .entry)) firsts (drawingOf pen command look map) (now (store .entry)) (now (out .entry))) (placeAt budget (ranOn (r .count) (r .at) progress) (now (cells .entry)) (now (places .exit)) firsts (drawingOf (r .pen) (r .command) look map) (now (store .entry)) (now (out .exit)))) ⌝ }
+    ensures most { λ r. ⌜ Most (r .count) budget progress (now (piece .entry)) ⌝ }
+    ensures still { λ r. ⌜ (r .count ≡ 0 → r ≡ record { count = 0; at = progress .written; pen = pen; command = command }) ⌝ }
 {
     let waiting = progress.waiting;
     if !awaits_nothing(waiting) {
         return none_drawn(pen, command, progress.written);
     }
-    let sets = progress.sets;
-    let used = sets.used;
-    let set = set_of(used, sets);
-    if progress.depth == 0 {
-        return draw_piece(set, progress, pen, command, look, budget, piece, out);
+    let next = bytes_next(progress, budget, cells, places, store, piece.len());
+    let bytes = source_of(progress.depth, piece, store);
+    if !begins_drawn(bytes, next.from, next.to) {
+        return none_drawn(pen, command, progress.written);
     }
-    draw_body(
-        set,
-        progress,
-        pen,
-        command,
-        look,
-        budget,
-        cells,
-        places,
-        store,
-        out,
-    )
+    let set = set_read(progress);
+    let at = progress.written;
+    let ran = draw_set(set, pen, command, look, bytes, next.from, next.to, out, at);
+    read_past(progress.depth, ran.count, places);
+    ran
 }
 
-// The progress after a run of bytes that are drawn.
-pub fn after_run(progress: Progress, ran: Ran) -> Progress
-    requires { ⌜ (progress .steps + ran .count ≤ 4294967295) × (placeAfter (progress .depth) (ran .count) (progress .at) ≤ 18446744073709551615) ⌝ }
-    ensures { λ r. ⌜ r ≡ ranOn (placeAfter (progress .depth) (ran .count) (progress .at)) ran progress ⌝ }
+// The progress after a run of so many drawn bytes, their records written up to a place.
+pub fn after_run(progress: Progress, count: usize, written: usize) -> Progress
+    requires { ⌜ (progress .steps + count ≤ 4294967295) × (placeAfter (progress .depth) count (progress .at) ≤ 18446744073709551615) ⌝ }
+    ensures { λ r. ⌜ r ≡ ranOn count written progress ⌝ }
 {
     let mut progress = progress;
-    progress.written = ran.at;
-    progress.steps = progress.steps + (ran.count as u32);
+    progress.written = written;
+    progress.steps = progress.steps + (count as u32);
     if progress.depth == 0 {
-        progress.at = progress.at + ran.count;
+        progress.at = progress.at + count;
         return progress;
     }
     progress
@@ -354,17 +430,14 @@ fn names_piece(
     ensures walk { λ r. ⌜ ((budget : ℕ) (d : Drawing) (st out : List ℕ) → to - progress .at ≤ budget - progress .steps → roomForStep ≤ length out - progress .written → Walk (now (piece .entry)) (placeAt budget progress (now (cells .entry)) (now (places .entry)) (now (firsts .entry)) d st out) (placeAt budget r (now (cells .exit)) (now (places .exit)) (now (firsts .entry)) d st out)) ⌝ }
     ensures most { λ r. ⌜ r .steps - progress .steps ≤ to - progress .at ⌝ }
 {
-    let sets = progress.sets;
-    let used = sets.used;
-    let set = set_of(used, sets);
-    if let Set::Macro = set {
+    if let Set::Macro = set_read(progress) {
         return call_piece(progress, to, cells, places, firsts, piece);
     }
     progress
 }
 
 // Bytes of the piece that write no record, with so many bytes of the output free.
-pub fn run_coded(
+fn code_piece(
     progress: Progress,
     budget: u32,
     free: usize,
@@ -394,4 +467,26 @@ pub fn run_coded(
         return names_piece(progress, to, cells, places, firsts, piece);
     }
     idle_piece(progress, to, firsts, store, piece)
+}
+
+// The same after spent bodies are removed.
+pub fn run_coded(
+    progress: Progress,
+    budget: u32,
+    free: usize,
+    cells: &mut [u8; 8],
+    places: &mut [u8; 8],
+    firsts: &mut [u8; 96],
+    store: &mut [u8],
+    piece: &[u8],
+) -> Progress
+    requires { ⌜ (Sized (now store)) × (progress .depth ≤ 8) × (waitingFits (progress .waiting) ≡ true) × (progress .at ≤ length (now piece)) ⌝ }
+    ensures walk { λ r. ⌜ ((d : Drawing) (out : List ℕ) → free ≡ length out - progress .written → Walk (now (piece .entry)) (placeAt budget progress (now (cells .entry)) (now (places .entry)) (now (firsts .entry)) d (now (store .entry)) out) (placeAt budget r (now (cells .exit)) (now (places .exit)) (now (firsts .exit)) d (now (store .exit)) out)) ⌝ }
+    ensures most { λ r. ⌜ r .steps - progress .steps ≤ budget - progress .steps ⌝ }
+{
+    let depth = depth_left(store, cells, places, progress.depth);
+    let progress = at_depth(progress, depth);
+    code_piece(
+        progress, budget, free, cells, places, firsts, store, piece,
+    )
 }
