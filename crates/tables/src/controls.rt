@@ -4,63 +4,48 @@ use rules::Control;
 use rules::Element;
 use rules::SingleShift;
 ghost use mathlib.Core.Path.{_≡_};
+ghost use mathlib.Core.Bool.{true};
+ghost use Prim.Native.Nat.{_<_};
+ghost use lib.ListN.{getD};
 ghost use Rattle.rules.specs.Coding.{controls, classOf};
-
-// What each control does, from 0/0 on.
-const CONTROLS: [Control; 32] = [
-    // 0/0 to 0/6
-    Control::Ignored,
-    Control::Ignored,
-    Control::Ignored,
-    Control::Ignored,
-    Control::Ignored,
-    Control::Ignored,
-    Control::Ignored,
-    // 0/7 to 0/13
-    Control::Recorded,
-    Control::Recorded,
-    Control::Recorded,
-    Control::Recorded,
-    Control::Recorded,
-    Control::Recorded,
-    Control::Recorded,
-    // 0/14 SO, 0/15 SI
-    Control::Locks(Element::G1),
-    Control::Locks(Element::G0),
-    // 1/0 to 1/8
-    Control::Recorded,
-    Control::Recorded,
-    Control::Recorded,
-    Control::Recorded,
-    Control::Recorded,
-    Control::Recorded,
-    Control::Recorded,
-    Control::Recorded,
-    Control::Recorded,
-    // 1/9 SS2
-    Control::Shifts(SingleShift::Ss2),
-    Control::Recorded,
-    // 1/11 ESC
-    Control::Escapes,
-    Control::Barred,
-    // 1/13 SS3
-    Control::Shifts(SingleShift::Ss3),
-    Control::Recorded,
-    Control::Barred,
-];
-
-fn controls() -> [Control; 32]
-    ensures { λ r. ⌜ r ≡ controls ⌝ }
-{
-    CONTROLS
-}
 
 pub fn class_of(b: u8) -> Class
     ensures { λ r. ⌜ r ≡ classOf b ⌝ }
 {
     match b {
-        0..=31 => Class::Below(controls()[b as usize]),
+        // 0/0 to 0/6
+        0..=6 => Class::Below(Control::Ignored),
+        // 0/7 to 0/13
+        7..=13 => Class::Below(Control::Recorded),
+        // 0/14 SO, 0/15 SI
+        14 => Class::Below(Control::Locks(Element::G1)),
+        15 => Class::Below(Control::Locks(Element::G0)),
+        // 1/0 to 1/8
+        16..=24 => Class::Below(Control::Recorded),
+        // 1/9 SS2
+        25 => Class::Below(Control::Shifts(SingleShift::Ss2)),
+        26 => Class::Below(Control::Recorded),
+        // 1/11 ESC
+        27 => Class::Below(Control::Escapes),
+        28 => Class::Below(Control::Barred),
+        // 1/13 SS3
+        29 => Class::Below(Control::Shifts(SingleShift::Ss3)),
+        30 => Class::Below(Control::Recorded),
+        31 => Class::Below(Control::Barred),
         32..=47 => Class::Column2,
         _ => Class::Above,
+    }
+}
+
+// Whether a control is recorded.
+pub fn is_recorded(b: u8) -> bool
+    ensures { λ r. ⌜ (r ≡ true → (b < 32) × (getD controls b Control.Ignored ≡ Control.Recorded)) ⌝ }
+{
+    match class_of(b) {
+        Class::Below(control) => match control {
+            Control::Recorded => true,
+            _ => false,
+        },
+        _ => false,
     }
 }
