@@ -14,11 +14,6 @@ use Rattle.turns.specs.Walk.{Place, budgetLeft, Walk, none, removed, step}
 use Rattle.reader.proofs.Turns.{Advance, Follows, turn-follows}
 use Rattle.reader.proofs.Whole.{Kept, kept-on}
 
-pub walk-then : {piece : List ℕ} {x y z : Place} → Walk piece x y → Walk piece y z → Walk piece x z
-walk-then a none = a
-walk-then a (removed b) = removed (walk-then a b)
-walk-then a (step b e) = step (walk-then a b) e
-
 module _ (piece : List ℕ) where
   abbrev room : Place → ℕ
   room y = length (y .output) - y .written

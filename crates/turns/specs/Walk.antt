@@ -70,13 +70,12 @@ abbrev pub Passes : ℕ → ℕ → List ℕ → Type 0
 Passes d n places = (i : ℕ) → d ≡ suc i → (i < length places) × (getD places i 0 + n < 256) × (n < 256)
 
 -- The bytes that are read next, with the piece at a place, lie from here to there in their source
-abbrev pub Lies : ℕ → ℕ → List ℕ → List ℕ → List ℕ → List ℕ → ℕ → ℕ → Type 0
-Lies zero at cells places st piece from to = (from ≡ at) × (from ≤ to) × (to ≤ length piece)
-Lies (suc i) at cells places st piece from to =
-    (from ≤ to)
-    × (to ≤ length st)
-    × ((n : ℕ) → from + n ≤ to → Passes (suc i) n places)
-    × ((k : ℕ) → from + k < to → Gives st (bodyAt (bodiesOf (suc i) cells places) i) from k)
+pub record Lies (d at : ℕ) (cells places st piece : List ℕ) (from to : ℕ) : Type 0 where
+  pub order : from ≤ to
+  pub within : to ≤ length (sourceOf d piece st)
+  pub start : d ≡ 0 → from ≡ at
+  pub passes : (n : ℕ) → from + n ≤ to → Passes d n places
+  pub gives : (i : ℕ) → d ≡ suc i → (k : ℕ) → from + k < to → Gives st (bodyAt (bodiesOf (suc i) cells places) i) from k
 
 -- The progress after a run of so many drawn bytes, with the place after their records
 abbrev pub ranOn : ℕ → ℕ → Progress → Progress

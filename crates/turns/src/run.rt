@@ -167,15 +167,15 @@ fn stretch_next(
     cells: &[u8; 8],
     places: &[u8; 8],
     store: &[u8],
-    end: usize,
+    piece: &[u8],
 ) -> Stretch
-    requires { ⌜ (Sized (now store)) × (progress .depth ≤ 8) × (progress .at ≤ end) ⌝ }
-    ensures { λ r. ⌜ ((piece : List ℕ) → end ≡ length piece → Lies (progress .depth) (progress .at) (now (cells .entry)) (now (places .entry)) (now (store .entry)) piece (r .from) (r .to)) ⌝ }
+    requires { ⌜ (Sized (now store)) × (progress .depth ≤ 8) × (progress .at ≤ length (now piece)) ⌝ }
+    ensures { λ r. ⌜ Lies (progress .depth) (progress .at) (now (cells .entry)) (now (places .entry)) (now (store .entry)) (now (piece .entry)) (r .from) (r .to) ⌝ }
 {
     if progress.depth == 0 {
         return Stretch {
             from: progress.at,
-            to: end,
+            to: piece.len(),
         };
     }
     stretch_of(store, body_at(cells, places, progress.depth - 1))
@@ -188,13 +188,13 @@ fn bytes_next(
     cells: &[u8; 8],
     places: &[u8; 8],
     store: &[u8],
-    end: usize,
+    piece: &[u8],
 ) -> Stretch
-    requires { ⌜ (Sized (now store)) × (progress .depth ≤ 8) × (progress .at ≤ end) ⌝ }
-    ensures lies { λ r. ⌜ ((piece : List ℕ) → end ≡ length piece → Lies (progress .depth) (progress .at) (now (cells .entry)) (now (places .entry)) (now (store .entry)) piece (r .from) (r .to)) ⌝ }
+    requires { ⌜ (Sized (now store)) × (progress .depth ≤ 8) × (progress .at ≤ length (now piece)) ⌝ }
+    ensures lies { λ r. ⌜ Lies (progress .depth) (progress .at) (now (cells .entry)) (now (places .entry)) (now (store .entry)) (now (piece .entry)) (r .from) (r .to) ⌝ }
     ensures few { λ r. ⌜ r .to - r .from ≤ budget - progress .steps ⌝ }
 {
-    let stretch = stretch_next(progress, cells, places, store, end);
+    let stretch = stretch_next(progress, cells, places, store, piece);
     Stretch {
         from: stretch.from,
         to: reach(stretch.from, stretch.to, budget, progress.steps),
@@ -271,7 +271,7 @@ fn no_strokes(pen: Pen, at: usize) -> Lined
 }
 
 // Points of POINT SET and LINE, of the innermost body, else of the piece. The command stays as it is.
-pub fn run_strokes(
+pub fn run_strokes<'a>(
     progress: Progress,
     pen: Pen,
     command: Command,
@@ -279,8 +279,8 @@ pub fn run_strokes(
     budget: u32,
     cells: &[u8; 8],
     places: &mut [u8; 8],
-    store: &[u8],
-    piece: &[u8],
+    store: &'a [u8],
+    piece: &'a [u8],
     out: &mut [u8],
 ) -> Lined
     requires { ⌜ Fit progress (now store) (now piece) (now out) ⌝ }
@@ -291,7 +291,7 @@ pub fn run_strokes(
     if !strokes_open(progress, command.opcode) {
         return no_strokes(pen, progress.written);
     }
-    let next = bytes_next(progress, budget, cells, places, store, piece.len());
+    let next = bytes_next(progress, budget, cells, places, store, piece);
     let bytes = source_of(progress.depth, piece, store);
     if !begins_with_data(bytes, next.from, next.to) {
         return no_strokes(pen, progress.written);
@@ -303,7 +303,7 @@ pub fn run_strokes(
 }
 
 // Bytes that are drawn, of the innermost body, else of the piece.
-pub fn run_drawn(
+pub fn run_drawn<'a>(
     progress: Progress,
     pen: Pen,
     command: Command,
@@ -311,20 +311,20 @@ pub fn run_drawn(
     budget: u32,
     cells: &[u8; 8],
     places: &mut [u8; 8],
-    store: &[u8],
-    piece: &[u8],
+    store: &'a [u8],
+    piece: &'a [u8],
     out: &mut [u8],
 ) -> Ran
     requires { ⌜ (Fit progress (now store) (now piece) (now out)) × (domainFits (look .domain) ≡ true) × (commandFits command ≡ true) ⌝ }
     ensures walk { λ r. ⌜ ((firsts map : List ℕ) → Walk (now (piece .entry)) (placeAt budget progress (now (cells .entry)) (now (places .entry)) firsts (drawingOf pen command look map) (now (store .entry)) (now (out .entry))) (placeAt budget (ranOn (r .count) (r .at) progress) (now (cells .entry)) (now (places .exit)) firsts (drawingOf (r .pen) (r .command) look map) (now (store .entry)) (now (out .exit)))) ⌝ }
     ensures most { λ r. ⌜ Most (r .count) budget progress (now (piece .entry)) ⌝ }
-    ensures still { λ r. ⌜ (r .count ≡ 0 → r ≡ record { count = 0; at = progress .written; pen = pen; command = command }) ⌝ }
+    ensures still { λ r. ⌜ (r .count ≡ 0 → (r .at ≡ progress .written) × (r .pen ≡ pen) × (r .command ≡ command)) ⌝ }
 {
     let waiting = progress.waiting;
     if !awaits_nothing(waiting) {
         return none_drawn(pen, command, progress.written);
     }
-    let next = bytes_next(progress, budget, cells, places, store, piece.len());
+    let next = bytes_next(progress, budget, cells, places, store, piece);
     let bytes = source_of(progress.depth, piece, store);
     if !begins_drawn(bytes, next.from, next.to) {
         return none_drawn(pen, command, progress.written);

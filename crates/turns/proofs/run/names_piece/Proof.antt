@@ -5,18 +5,18 @@ use borrow.Author.Needs.{needs}
 use Rattle.turns.proofs.run.names_piece.Statement.{statement}
 use Rattle.turns.proofs.run.names_piece.Tie as tie
 
-set-of-requires : tie.Need-set-of-requires
-set-of-requires c κs = search needs
+set-read-requires : tie.Need-set-read-requires
+set-read-requires c κs = search needs
 
 enum-told : tie.Need-enum-told
 enum-told c = search needs
 
 call-piece-requires : tie.Need-call-piece-requires
 call-piece-requires c κs =
-    let pre· = c .before .before .before .before .before .before .before .pre in
-    let set-of· = c .before .before .before .before .set-of in
+    let pre· = c .before .before .before .before .before .before .pre in
+    let set-read· = c .before .before .before .before .set-read in
     let enum-told· = c .before .before .enum-told in
-    (pre· .0, pre· .1, sym (set-of· .ensures) ∙ enum-told· .given .1, pre· .2, pre· .3, pre· .4)
+    (pre· .0, pre· .1, sym (set-read· .ensures) ∙ enum-told· .given .1, pre· .2, pre· .3, pre· .4)
 
 returns : tie.Need-returns
 returns c =
@@ -30,7 +30,7 @@ pub names-piece-spec : {M : Type 1} → statement M
 names-piece-spec =
     tie.close
     (tie.spec
-    set-of-requires
+    set-read-requires
     enum-told
     call-piece-requires
     returns

@@ -1,78 +1,42 @@
 use denote.Ref.{now}
 use native.Mathlib.Omega.{arith}
-use Rattle.turns.specs.Walk.{none}
+use mathlib.Core.Path.{ap}
+use Rattle.turns.specs.declared.step.Progress.{Progress}
+use Rattle.turns.proofs.ProgressLaws.{walk-then, walk-removed}
 use borrow.Author.Needs.{needs}
 use Rattle.turns.proofs.run.run_coded.Statement.{statement}
 use Rattle.turns.proofs.run.run_coded.Tie as tie
 
-returns : tie.Need-returns
-returns c = (λ d out h. none, omega arith)
+depth-left-requires : tie.Need-depth-left-requires
+depth-left-requires c κs = search needs
 
-reach-requires : tie.Need-reach-requires
-reach-requires c κs = search needs
+at-depth-requires : tie.Need-at-depth-requires
+at-depth-requires c κs = search needs
 
-returns-2 : tie.Need-returns-2
-returns-2 c = (λ d out h. none, omega arith)
-
-returns-3 : tie.Need-returns-3
-returns-3 c = (λ d out h. none, omega arith)
-
-awaits-nothing-requires : tie.Need-awaits-nothing-requires
-awaits-nothing-requires c κs = search needs
-
-shared-slice-read-if5 : tie.Need-shared-slice-read-if5
-shared-slice-read-if5 c = search needs
-
-names-piece-requires : tie.Need-names-piece-requires
-names-piece-requires c κs =
-    let if1· = c .before .before .before .before .before .before .before .before .before .before .if1 in
-    let awaits-nothing· = c .before .before .before .before .before .before .awaits-nothing in
-    let if4· = c .before .before .before .before .before .if4 in
-    let reach· = c .before .before .before .before .before .before .before .before .before .reach in
-    let fits· = c .before .before .before .before .before .before .before .before .before .before .before .before .before .before .fits in
-    let good· = c .before .before .before .before .before .before .before .before .before .before .before .before .before .before .good in
-    (if1· .left, awaits-nothing· .ensures (if4· .taken), reach· .ensures .0, reach· .ensures .1, omega (arith, reach· .ensures .0, reach· .ensures .2, fits· .budget, good·))
-
-returns-4 : tie.Need-returns-4
-returns-4 c =
-    let names-piece· = c .names-piece in
-    let args· = c .before .before .before .before .before .before .before .before .before .before .before .before .before .before .before .args in
-    let reach· = c .before .before .before .before .before .before .before .before .before .before .reach in
-    let if3· = c .before .before .before .before .before .before .before .before .if3 in
-    (λ d out h. names-piece· .ensures .0 (args· .budget) d (now (args· .store)) out (reach· .ensures .2) (omega (arith, if3· .left, h)), omega (arith, names-piece· .ensures .1, reach· .ensures .2))
-
-idle-piece-requires : tie.Need-idle-piece-requires
-idle-piece-requires c κs =
-    let if1· = c .before .before .before .before .before .before .before .if1 in
+code-piece-requires : tie.Need-code-piece-requires
+code-piece-requires c κs =
     let pre· = c .before .before .before .before .before .before .before .before .before .before .before .pre in
-    let reach· = c .before .before .before .before .before .before .reach in
-    let fits· = c .before .before .before .before .before .before .before .before .before .before .before .fits in
-    let good· = c .before .before .before .before .before .before .before .before .before .before .before .good in
-    (if1· .left, pre· .0, pre· .1, reach· .ensures .0, reach· .ensures .1, omega (arith, reach· .ensures .0, reach· .ensures .2, fits· .budget, good·))
+    let at-depth· = c .before .before .before .before .at-depth in
+    (pre· .0, rw (at-depth· .ensures) (pre· .2), rw (at-depth· .ensures) (pre· .3))
 
 same-length : tie.Need-same-length
 same-length c = search needs
 
-returns-5 : tie.Need-returns-5
-returns-5 c =
-    let idle-piece· = c .before .before .idle-piece in
+returns : tie.Need-returns
+returns c =
+    let at-depth· = c .before .before .before .before .before .before .before .at-depth in
     let args· = c .before .before .before .before .before .before .before .before .before .before .before .before .before .before .args in
-    let reach· = c .before .before .before .before .before .before .before .before .before .reach in
-    let if3· = c .before .before .before .before .before .before .before .if3 in
-    (λ d out h. idle-piece· .ensures .0 (args· .budget) (now (args· .cells)) (now (args· .places)) d out (reach· .ensures .2) (omega (arith, if3· .left, h)), omega (arith, idle-piece· .ensures .1, reach· .ensures .2))
+    let depth-left· = c .before .before .before .before .before .before .before .before .depth-left in
+    let code-piece· = c .before .before .code-piece in
+    let steps = ap (λ (p : Progress). p .steps) (at-depth· .ensures) in
+    (λ d out h. walk-then (walk-removed (args· .budget) (args· .progress) (now (args· .cells)) (now (args· .places)) (now (args· .firsts)) d (now (args· .store)) (now (args· .piece)) out (depth-left· .result) (depth-left· .ensures .0) (at-depth· .result) (at-depth· .ensures)) (code-piece· .ensures .0 d out (rw (at-depth· .ensures) h)), omega (arith, steps, code-piece· .ensures .1))
 
 pub run-coded-spec : {M : Type 1} → statement M
 run-coded-spec =
     tie.close
     (tie.spec
-    returns
-    reach-requires
-    returns-2
-    returns-3
-    awaits-nothing-requires
-    shared-slice-read-if5
-    names-piece-requires
-    returns-4
-    idle-piece-requires
+    depth-left-requires
+    at-depth-requires
+    code-piece-requires
     same-length
-    returns-5)
+    returns)

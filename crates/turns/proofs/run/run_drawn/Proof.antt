@@ -1,13 +1,12 @@
 use denote.Ref.{now}
-use lib.ListN.{length}
-use Prim.Native.Nat.{_≤_}
-use Rattle.figures.specs.Carried.{drawingOf}
-use Rattle.turns.specs.Walk.{placeAt, Walk, ranOn}
 use native.Mathlib.Omega.{arith}
-use borrow.Author.Tests.{not-false}
-use Rattle.turns.proofs.ProgressLaws.{after-piece, after-body, none-drawn-walk, none-drawn-most}
 use mathlib.Core.Path.{ap}
+use mathlib.Core.List.{List, []}
+use Prim.Native.Nat.{ℕ}
+use lib.ListN.{length}
+use borrow.Author.Tests.{not-false}
 use Rattle.runs.specs.declared.Ran.{Ran}
+use Rattle.turns.proofs.ProgressLaws.{walk-run, run-still, run-most, none-walk, none-most}
 use borrow.Author.Needs.{needs}
 use Rattle.turns.proofs.run.run_drawn.Statement.{statement}
 use Rattle.turns.proofs.run.run_drawn.Tie as tie
@@ -20,57 +19,93 @@ none-drawn-requires c κs = search needs
 
 returns : tie.Need-returns
 returns c =
-    let args· = c .before .before .before .before .before .before .args in
     let none-drawn· = c .none-drawn in
+    let args· = c .before .before .before .before .before .before .args in
     let pre· = c .before .before .before .before .before .before .pre in
     let good· = c .before .before .before .before .before .before .good in
-    (λ firsts map. none-drawn-walk (args· .budget) (args· .progress) (now (args· .cells)) (now (args· .places)) firsts (args· .pen) (args· .command) (args· .look) map (now (args· .store)) (now (args· .piece)) (now (args· .out)) (none-drawn· .result) (none-drawn· .ensures), (none-drawn-most (args· .progress) (args· .budget) (args· .pen) (args· .command) (none-drawn· .result) (none-drawn· .ensures) _ (pre· .0 .on), omega (arith, ap (λ (z : Ran). z .count) (none-drawn· .ensures), good· .0 .1 .1 .0)))
+    let e = none-drawn· .ensures in
+    let at = ap (λ (r : Ran). r .at) e in
+    let pen = ap (λ (r : Ran). r .pen) e in
+    let command = ap (λ (r : Ran). r .command) e in
+    let count = ap (λ (r : Ran). r .count) e in (
+      λ firsts map. none-walk (args· .budget) (args· .progress) (now (args· .cells)) (now (args· .places)) firsts (args· .pen) (args· .command) (args· .look) map (now (args· .store)) (now (args· .piece)) (now (args· .out)) _ _ _ _ count at pen command,
+      (none-most _ (args· .budget) (args· .progress) (now (args· .piece)) count (pre· .0 .on) (omega (arith, good· .0 .1 .1 .1 .1 .0)), λ _. (at, pen, command)),
+    )
 
-set-of-requires : tie.Need-set-of-requires
-set-of-requires c κs = search needs
+bytes-next-requires : tie.Need-bytes-next-requires
+bytes-next-requires c κs =
+    let pre· = c .before .before .before .before .before .before .pre in
+    (pre· .0 .store, pre· .0 .depth, pre· .0 .on)
 
-draw-piece-requires : tie.Need-draw-piece-requires
-draw-piece-requires c κs =
-    let if2· = c .before .if2 in
-    let awaits-nothing· = c .before .before .before .before .before .before .awaits-nothing in
-    let if1· = c .before .before .before .before .before .if1 in
-    let set-of· = c .before .before .before .set-of in
-    let pre· = c .before .before .before .before .before .before .before .before .before .before .pre in
-    (if2· .taken, (awaits-nothing· .ensures (not-false (awaits-nothing· .result) (if1· .left))), set-of· .ensures, pre· .1, pre· .2, pre· .0 .on, pre· .0 .within)
+source-of-requires : tie.Need-source-of-requires
+source-of-requires c κs = search needs
+
+begins-drawn-requires : tie.Need-begins-drawn-requires
+begins-drawn-requires c κs =
+    let bytes-next· = c .before .bytes-next in
+    let source-of· = c .source-of in
+    omega (arith, bytes-next· .ensures .0 .within, ap (λ (l : List ℕ). length l) (source-of· .ensures))
+
+none-drawn-requires-2 : tie.Need-none-drawn-requires-2
+none-drawn-requires-2 c κs = search needs
+
+returns-2 : tie.Need-returns-2
+returns-2 c =
+    let none-drawn2· = c .none-drawn2 in
+    let args· = c .before .before .before .before .before .before .before .before .before .before .before .args in
+    let pre· = c .before .before .before .before .before .before .before .before .before .before .before .pre in
+    let good· = c .before .before .before .before .before .before .before .before .before .before .before .good in
+    let e = none-drawn2· .ensures in
+    let at = ap (λ (r : Ran). r .at) e in
+    let pen = ap (λ (r : Ran). r .pen) e in
+    let command = ap (λ (r : Ran). r .command) e in
+    let count = ap (λ (r : Ran). r .count) e in (
+      λ firsts map. none-walk (args· .budget) (args· .progress) (now (args· .cells)) (now (args· .places)) firsts (args· .pen) (args· .command) (args· .look) map (now (args· .store)) (now (args· .piece)) (now (args· .out)) _ _ _ _ count at pen command,
+      (none-most _ (args· .budget) (args· .progress) (now (args· .piece)) count (pre· .0 .on) (omega (arith, good· .0 .1 .1 .1 .1 .0)), λ _. (at, pen, command)),
+    )
+
+set-read-requires : tie.Need-set-read-requires
+set-read-requires c κs = search needs
+
+draw-set-requires : tie.Need-draw-set-requires
+draw-set-requires c κs =
+    let pre· = c .before .before .before .before .before .before .before .before .before .before .before .before .pre in
+    let bytes-next· = c .before .before .before .before .before .bytes-next in
+    let source-of· = c .before .before .before .before .source-of in
+    (pre· .1, pre· .2, bytes-next· .ensures .0 .order, omega (arith, bytes-next· .ensures .0 .within, ap (λ (l : List ℕ). length l) (source-of· .ensures)), pre· .0 .within)
+
+read-past-requires : tie.Need-read-past-requires
+read-past-requires c κs =
+    let pre· = c .before .before .before .before .before .before .before .before .before .before .before .before .before .before .before .before .pre in
+    let bytes-next· = c .before .before .before .before .before .before .before .before .before .bytes-next in
+    let draw-set· = c .before .before .before .draw-set in
+    (pre· .0 .depth, bytes-next· .ensures .0 .passes (draw-set· .result .count) (draw-set· .ensures .1))
 
 same-length : tie.Need-same-length
 same-length c = search needs
 
-returns-2 : tie.Need-returns-2
-returns-2 c =
-    let args· = c .before .before .before .before .before .before .before .before .before .before .before .before .before .args in
-    let draw-piece· = c .before .before .draw-piece in
-    let if2· = c .before .before .before .before .if2 in
-    let good· = c .before .before .before .before .before .before .before .before .before .before .before .before .before .good in
-    let fits· = c .before .before .before .before .before .before .before .before .before .before .before .before .before .fits in
-    (λ firsts map. after-piece (args· .progress) (draw-piece· .result .count) (if2· .taken) (λ at. Walk (now (args· .piece)) (placeAt (args· .budget) (args· .progress) (now (args· .cells)) (now (args· .places)) firsts (drawingOf (args· .pen) (args· .command) (args· .look) map) (now (args· .store)) (now (args· .out))) (placeAt (args· .budget) (ranOn at (draw-piece· .result) (args· .progress)) (now (args· .cells)) (now (args· .places)) firsts (drawingOf (draw-piece· .result .pen) (draw-piece· .result .command) (args· .look) map) (now (args· .store)) (draw-piece· .last .1 .1 .1 .1 .1 .1 .1 .0))) (draw-piece· .ensures .0 (now (args· .cells)) (now (args· .places)) firsts map (now (args· .store))), ((draw-piece· .ensures .1 .0, after-piece (args· .progress) (draw-piece· .result .count) (if2· .taken) (λ at. at ≤ length (now (args· .piece))) (draw-piece· .ensures .1 .1)), omega (arith, draw-piece· .ensures .1 .0, fits· .budget, good· .0 .1 .1 .0)))
-
-draw-body-requires : tie.Need-draw-body-requires
-draw-body-requires c κs =
-    let pre· = c .before .before .before .before .before .before .before .before .before .before .before .before .pre in
-    let if2· = c .before .before .before .if2 in
-    let awaits-nothing· = c .before .before .before .before .before .before .before .before .awaits-nothing in
-    let if1· = c .before .before .before .before .before .before .before .if1 in
-    let set-of· = c .before .before .before .before .before .set-of in
-    (pre· .0 .store, omega (arith, if2· .left), pre· .0 .depth, (awaits-nothing· .ensures (not-false (awaits-nothing· .result) (if1· .left))), set-of· .ensures, pre· .1, pre· .2, pre· .0 .within)
-
-same-length-2 : tie.Need-same-length-2
-same-length-2 c = search needs
-
 returns-3 : tie.Need-returns-3
 returns-3 c =
-    let args· = c .before .before .before .before .before .before .before .before .before .before .before .before .before .before .before .args in
-    let draw-body· = c .before .before .draw-body in
-    let if2· = c .before .before .before .before .before .before .if2 in
-    let pre· = c .before .before .before .before .before .before .before .before .before .before .before .before .before .before .before .pre in
-    let good· = c .before .before .before .before .before .before .before .before .before .before .before .before .before .before .before .good in
-    let fits· = c .before .before .before .before .before .before .before .before .before .before .before .before .before .before .before .fits in
-    (λ firsts map. rw (after-body (args· .progress .depth) (draw-body· .result .count) (args· .progress .at) (if2· .left)) (draw-body· .ensures .0 (now (args· .piece)) firsts map), ((draw-body· .ensures .1, rw (after-body (args· .progress .depth) (draw-body· .result .count) (args· .progress .at) (if2· .left)) (pre· .0 .on)), omega (arith, draw-body· .ensures .1, fits· .budget, good· .0 .1 .1 .0)))
+    let awaits-nothing· = c .before .before .before .before .before .before .before .before .before .before .before .before .before .awaits-nothing in
+    let if1· = c .before .before .before .before .before .before .before .before .before .before .before .before .if1 in
+    let args· = c .before .before .before .before .before .before .before .before .before .before .before .before .before .before .before .before .before .args in
+    let set-read· = c .before .before .before .before .before .before .set-read in
+    let draw-set· = c .before .before .before .before .draw-set in
+    let bytes-next· = c .before .before .before .before .before .before .before .before .before .before .bytes-next in
+    let source-of· = c .before .before .before .before .before .before .before .before .before .source-of in
+    let read-past· = c .read-past in
+    let pre· = c .before .before .before .before .before .before .before .before .before .before .before .before .before .before .before .before .before .pre in
+    let fits· = c .before .before .before .before .before .before .before .before .before .before .before .before .before .before .before .before .before .fits in
+    let good· = c .before .before .before .before .before .before .before .before .before .before .before .before .before .before .before .before .before .good in
+    let waits = awaits-nothing· .ensures (not-false (awaits-nothing· .result) (if1· .left)) in (
+      λ firsts map. walk-run (args· .budget) (args· .progress) (now (args· .cells)) (now (args· .places)) firsts (args· .pen) (args· .command) (args· .look) map (now (args· .store)) (now (args· .piece)) (now (args· .out))
+        (set-read· .result) _ (draw-set· .result .count) (draw-set· .result .at) (draw-set· .result .pen) (draw-set· .result .command) (draw-set· .last .1 .1 .1 .1 .1 .1 .1 .0) (bytes-next· .result .from) (bytes-next· .result .to)
+        waits (set-read· .ensures) (source-of· .ensures) (draw-set· .ensures .0 map) (draw-set· .ensures .1) (bytes-next· .ensures .1) (bytes-next· .ensures .0) _ (read-past· .ensures),
+      (
+        run-most (draw-set· .result .count) (args· .budget) (args· .progress) (bytes-next· .ensures .0) (draw-set· .ensures .1) (bytes-next· .ensures .1) (pre· .0 .on) (omega (arith, fits· .budget)) (omega (arith, good· .0 .1 .1 .1 .1 .0)),
+        run-still (draw-set· .ensures .0 []),
+      ),
+    )
 
 pub run-drawn-spec : {M : Type 1} → statement M
 run-drawn-spec =
@@ -79,10 +114,13 @@ run-drawn-spec =
     awaits-nothing-requires
     none-drawn-requires
     returns
-    set-of-requires
-    draw-piece-requires
-    same-length
+    bytes-next-requires
+    source-of-requires
+    begins-drawn-requires
+    none-drawn-requires-2
     returns-2
-    draw-body-requires
-    same-length-2
+    set-read-requires
+    draw-set-requires
+    read-past-requires
+    same-length
     returns-3)
