@@ -5,7 +5,7 @@ use bodies::body_at;
 use bodies::calls::empty_calls;
 use bodies::set_body;
 use coding::idle::run_idle;
-use runs::pdi::run_pdi;
+use runs::commands::run_commands;
 use runs::Ran;
 use runs::text::run_text;
 use macros::cursors::stretch_of;
@@ -85,7 +85,7 @@ fn draw_pdi(
     if pen.operand.count != 0 {
         return none_drawn(pen, command, at);
     }
-    run_pdi(pen, command, look, bytes, from, to, out, at)
+    run_commands(pen, command, look, bytes, from, to, out, at)
 }
 
 // Characters, where no command is open.

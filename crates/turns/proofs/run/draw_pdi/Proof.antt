@@ -14,8 +14,8 @@ returns c =
     let pre· = c .before .before .before .before .before .pre in
     (λ m. rw (none-drawn· .ensures) none, omega (arith, ap (λ r. r .count) (none-drawn· .ensures), pre·))
 
-run-pdi-requires : tie.Need-run-pdi-requires
-run-pdi-requires c κs = search needs
+run-commands-requires : tie.Need-run-commands-requires
+run-commands-requires c κs = search needs
 
 same-length : tie.Need-same-length
 same-length c = search needs
@@ -29,6 +29,6 @@ draw-pdi-spec =
     (tie.spec
     none-drawn-requires
     returns
-    run-pdi-requires
+    run-commands-requires
     same-length
     returns-2)
