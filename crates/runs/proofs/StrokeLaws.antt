@@ -12,7 +12,6 @@ use Rattle.rules.specs.declared.Due.the-variants.{First}
 use Rattle.rules.specs.declared.Drawing.{Drawing}
 use Rattle.rules.specs.declared.Look.{Look}
 use Rattle.rules.specs.declared.Operand.{Operand}
-use Rattle.rules.specs.declared.Pattern.{Pattern}
 use Rattle.rules.specs.declared.Pattern.the-variants.{A}
 use Rattle.rules.specs.declared.Pen.{Pen}
 use Rattle.rules.specs.declared.Point.{Point}
@@ -21,9 +20,9 @@ use Rattle.rules.specs.declared.Row.{Row}
 use Rattle.rules.specs.declared.Set.the-variants.{Pdi}
 use Rattle.rules.specs.Operands.{point}
 use Rattle.rules.specs.Record.{words, bytesOf, flags, origin, recordOf, figure}
-use Rattle.rules.specs.Drawing.{row, rows, rowOf, roleOf, dueAfter, lengthOf, withPoint, withOperand, withDue, noOperand, Draw, drawFigure, apply, nextOperand}
+use Rattle.rules.specs.Drawing.{row, rows, rowOf, roleOf, dueAfter, lengthOf, withPoint, withOperand, withDue, Draw, drawFigure, apply, nextOperand}
 use Rattle.records.specs.declared.Head.{Head}
-use Rattle.records.specs.Bytes.{overwrite, headOf, headBytes}
+use Rattle.records.specs.Bytes.{overwrite, headBytes}
 use Rattle.records.proofs.Heads.{record-bytes}
 use Rattle.coordinates.specs.Data.{allData}
 use Rattle.coordinates.proofs.WholeLaws.{is-three}

@@ -19,11 +19,14 @@ pub struct Ran {
     pub command: Command,
 }
 
+// The room of a step: at most three records are written.
+pub const ROOM_FOR_STEP: usize = 120;
+
 // How many steps of one record each can be taken before what is left ends, or the room for a step.
 pub fn most_steps(left: usize, room: usize) -> usize
     ensures { λ r. ⌜ (r ≤ left) × ((n : ℕ) → n < r → 40 * n + roomForStep ≤ room) ⌝ }
 {
-    if room < 120 {
+    if room < ROOM_FOR_STEP {
         return 0;
     }
     let places = (room - 80) / 40;

@@ -1,4 +1,5 @@
 // Runs of POINT SET and LINE to points of three bytes in two dimensions.
+use crate::ROOM_FOR_STEP;
 use crate::most_steps;
 use coordinates::whole::are_data;
 use coordinates::whole::has_three;
@@ -25,12 +26,13 @@ ghost use Rattle.runs.specs.Run.{standing, Run};
 ghost use Rattle.runs.specs.Strokes.{penAfter, Ready, Moves, Lines};
 
 const POINT_SET: u8 = 36;
+
 const LINE: u8 = 40;
 
 // How many bytes were taken, and the last point.
-pub struct Moved {
-    pub count: usize,
-    pub point: Point,
+struct Moved {
+    count: usize,
+    point: Point,
 }
 
 // The same, and the place after the records.
@@ -140,7 +142,7 @@ pub fn run_strokes(
         at,
         point,
     };
-    if out.len() - at < 120 {
+    if out.len() - at < ROOM_FOR_STEP {
         return none;
     }
     if !is_ready(pen, command, look) {

@@ -1,8 +1,8 @@
 // Runs of characters.
-use drawing::closing::opened;
-use drawing::operands::rested;
 use crate::Ran;
 use crate::most_steps;
+use drawing::closing::opened;
+use drawing::operands::rested;
 use figures::answers::ORIGIN;
 use records::head_of;
 use records::put_words;

@@ -1,5 +1,7 @@
 use Prim.Native.Nat.{_-_}
 use native.Mathlib.Omega.{arith}
+use denote.Ref.{now}
+use Rattle.runs.specs.Run.{standing}
 use Rattle.runs.proofs.TextLaws.{ran-none, ran-some}
 use borrow.Author.Needs.{needs}
 use Rattle.runs.proofs.text.run_text.Statement.{statement}
@@ -25,10 +27,11 @@ same-length c = search needs
 
 returns : tie.Need-returns
 returns c =
+    let args· = c .before .before .before .before .before .before .before .before .args in
     let if1· = c .if1 in
     let put-characters· = c .before .before .before .put-characters in
     let most-steps· = c .before .before .before .before .before .most-steps in
-    (λ m. ran-none _ _ _ _ m _ _ (if1· .taken) (put-characters· .ensures .0 m), omega (arith, most-steps· .ensures .0, put-characters· .ensures .1))
+    (λ m. ran-none {y = standing (args· .pen) (args· .command) (args· .look) m (args· .at) (now (args· .out))} _ _ _ _ m _ _ (if1· .taken) (put-characters· .ensures .0 m), omega (arith, most-steps· .ensures .0, put-characters· .ensures .1))
 
 mul-t12 : tie.Need-mul-t12
 mul-t12 c =
@@ -65,7 +68,7 @@ returns-2 c =
     let opened· = c .opened in
     let put-characters· = c .before .before .before .before .before .put-characters in
     let most-steps· = c .before .before .before .before .before .before .before .most-steps in
-    (λ m. ran-some _ _ (args· .command) _ m _ _ (if1· .left) (rested· .ensures) (opened· .ensures) (put-characters· .ensures .0 m), omega (arith, most-steps· .ensures .0, put-characters· .ensures .1))
+    (λ m. ran-some {y = standing (args· .pen) (args· .command) (args· .look) m (args· .at) (now (args· .out))} _ _ (args· .command) _ m _ _ (if1· .left) (rested· .ensures) (opened· .ensures) (put-characters· .ensures .0 m), omega (arith, most-steps· .ensures .0, put-characters· .ensures .1))
 
 pub run-text-spec : {M : Type 1} → statement M
 run-text-spec =
