@@ -106,7 +106,7 @@ fn is_first(due: Due) -> bool
     false
 }
 
-// Whether a command's first operand comes next, none of it begun, and points have three bytes in two dimensions.
+// Whether the first operand is due, none of it begun, and points have three bytes in two dimensions.
 fn is_ready(pen: Pen, command: Command, look: Look) -> bool
     ensures { λ r. ⌜ (r ≡ true → (kind : ℕ) → rowOf (command .opcode) ≡ row Pattern.A kind false → Ready kind pen command look) ⌝ }
 {
@@ -121,7 +121,7 @@ fn is_ready(pen: Pen, command: Command, look: Look) -> bool
     has_three(domain.multi as usize, domain.three)
 }
 
-// Points of POINT SET and LINE, absolute, as far as they come whole.
+// As many bytes as are whole points of POINT SET or LINE, absolute. The command stays as it is.
 pub fn run_strokes(
     pen: Pen,
     command: Command,
