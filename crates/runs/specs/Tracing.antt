@@ -16,8 +16,8 @@ use Rattle.rules.specs.declared.Role.{Role}
 use Rattle.rules.specs.declared.Role.the-variants.{MoveTo, DrawTo, DrawBy, Middle, ArcEnd, Start, Edge, Lengths, Pel, Foreground, Background, Shade, Dropped}
 use Rattle.rules.specs.Choice.{pick}
 use Rattle.rules.specs.Operands.{displaced, displacedOut}
-use Rattle.rules.specs.Record.{origin, recordOf}
-use Rattle.rules.specs.Drawing.{Outcome, opened, mostVertices}
+use Rattle.rules.specs.Record.{recordOf}
+use Rattle.rules.specs.Drawing.{Outcome, mostVertices}
 use Rattle.records.specs.declared.Head.{Head}
 use Rattle.records.specs.Bytes.{headOf, headBytes}
 use Rattle.figures.specs.Carried.{carryOut, drawingOf}

@@ -1,7 +1,6 @@
 // Runs: many bytes of one set at once, each a step of its own.
 pub mod commands;
 pub mod finishing;
-pub mod pdi;
 pub mod points;
 pub mod strokes;
 pub mod text;
@@ -9,6 +8,8 @@ pub mod tracing;
 
 use rules::Command;
 use rules::Pen;
+ghost use Prim.Native.Nat.{ℕ, _+_, _*_, _<_, _≤_};
+ghost use Rattle.rules.specs.Reading.{roomForStep};
 
 // How many bytes a run took, the place after their records, and what they left.
 pub struct Ran {
@@ -16,4 +17,21 @@ pub struct Ran {
     pub at: usize,
     pub pen: Pen,
     pub command: Command,
+}
+
+// The room of a step: at most three records are written.
+pub const ROOM_FOR_STEP: usize = 120;
+
+// How many steps of one record each can be taken before what is left ends, or the room for a step.
+pub fn most_steps(left: usize, room: usize) -> usize
+    ensures { λ r. ⌜ (r ≤ left) × ((n : ℕ) → n < r → 40 * n + roomForStep ≤ room) ⌝ }
+{
+    if room < ROOM_FOR_STEP {
+        return 0;
+    }
+    let places = (room - 80) / 40;
+    if left < places {
+        return left;
+    }
+    places
 }

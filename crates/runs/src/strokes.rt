@@ -1,20 +1,38 @@
 // Runs of POINT SET and LINE to points of three bytes in two dimensions.
+use crate::ROOM_FOR_STEP;
+use crate::most_steps;
 use coordinates::whole::are_data;
+use coordinates::whole::has_three;
 use coordinates::whole::point_of_three;
 use coordinates::whole::three_bytes;
 use figures::answers::ORIGIN;
 use records::Head;
+use records::head_of;
 use records::put_words;
+use rules::Command;
+use rules::Due;
+use rules::Look;
+use rules::Pen;
 use rules::Point;
 ghost use mathlib.Core.Path.{_≡_};
-ghost use Prim.Native.Nat.{_+_, _≤_};
+ghost use mathlib.Core.Bool.{true, false};
+ghost use mathlib.Core.List.{List};
+ghost use Prim.Native.Nat.{ℕ, _+_, _≤_};
 ghost use lib.ListN.{length};
-ghost use Rattle.runs.specs.Strokes.{Moves, Lines};
+ghost use Rattle.rules.specs.declared.Pattern.{Pattern};
+ghost use Rattle.rules.specs.declared.Set.{Set};
+ghost use Rattle.rules.specs.Drawing.{row, rowOf};
+ghost use Rattle.runs.specs.Run.{standing, Run};
+ghost use Rattle.runs.specs.Strokes.{penAfter, Ready, Moves, Lines};
+
+const POINT_SET: u8 = 36;
+
+const LINE: u8 = 40;
 
 // How many bytes were taken, and the last point.
-pub struct Moved {
-    pub count: usize,
-    pub point: Point,
+struct Moved {
+    count: usize,
+    point: Point,
 }
 
 // The same, and the place after the records.
@@ -24,7 +42,7 @@ pub struct Lined {
     pub point: Point,
 }
 
-pub fn moves(point: Point, bytes: &[u8], from: usize, to: usize) -> Moved
+fn moves(point: Point, bytes: &[u8], from: usize, to: usize) -> Moved
     requires { ⌜ (from ≤ to) × (to ≤ length (now bytes)) ⌝ }
     ensures ran { λ r. ⌜ Moves (now (bytes .entry)) from (r .count) (r .point) ⌝ }
     ensures most { λ r. ⌜ from + r .count ≤ to ⌝ }
@@ -45,7 +63,7 @@ pub fn moves(point: Point, bytes: &[u8], from: usize, to: usize) -> Moved
     }
 }
 
-pub fn lines(
+fn lines(
     point: Point,
     head: Head,
     pel: Point,
@@ -59,26 +77,90 @@ pub fn lines(
     ensures ran { λ r. ⌜ Lines (now (bytes .entry)) from head pel point at (now (out .entry)) (r .count) (r .point) (r .at) (now (out .exit)) ⌝ }
     ensures most { λ r. ⌜ from + r .count ≤ to ⌝ }
 {
-    let mut i = from;
-    let mut at = at;
+    let most = most_steps((to - from) / 3, out.len() - at);
+    let mut n: usize = 0;
     let mut point = point;
-    while 3 <= to - i {
-        if out.len() - at < 120 {
-            break;
-        }
-        let w = three_bytes(bytes, i);
+    while n < most {
+        let w = three_bytes(bytes, from + 3 * n);
         if !are_data(w) {
             break;
         }
         let q = point_of_three(w);
-        put_words(out, at, head, point, q, ORIGIN, pel);
+        put_words(out, at + 40 * n, head, point, q, ORIGIN, pel);
         point = q;
-        i += 3;
-        at += 40;
+        n += 1;
     }
     Lined {
-        count: i - from,
-        at,
+        count: 3 * n,
+        at: at + 40 * n,
         point,
     }
+}
+
+fn is_first(due: Due) -> bool
+    ensures { λ r. ⌜ (r ≡ true → due ≡ Due.First) ⌝ }
+{
+    if let Due::First = due {
+        return true;
+    }
+    false
+}
+
+// Whether the first operand is due, none of it begun, and points have three bytes in two dimensions.
+fn is_ready(pen: Pen, command: Command, look: Look) -> bool
+    ensures { λ r. ⌜ (r ≡ true → (kind : ℕ) → rowOf (command .opcode) ≡ row Pattern.A kind false → Ready kind pen command look) ⌝ }
+{
+    if pen.operand.count != 0 {
+        return false;
+    }
+    let due = command.due;
+    if !is_first(due) {
+        return false;
+    }
+    let domain = look.domain;
+    has_three(domain.multi as usize, domain.three)
+}
+
+// As many bytes as are whole points of POINT SET or LINE, absolute. The command stays as it is.
+pub fn run_strokes(
+    pen: Pen,
+    command: Command,
+    look: Look,
+    bytes: &[u8],
+    from: usize,
+    to: usize,
+    out: &mut [u8],
+    at: usize,
+) -> Lined
+    requires { ⌜ (from ≤ to) × (to ≤ length (now bytes)) × (at ≤ length (now out)) ⌝ }
+    ensures ran { λ r. ⌜ ((m : List ℕ) → Run Set.Pdi (now (bytes .entry)) from (standing pen command look m at (now (out .entry))) (r .count) (standing (penAfter (r .count) pen (r .point)) command look m (r .at) (now (out .exit)))) ⌝ }
+    ensures most { λ r. ⌜ from + r .count ≤ to ⌝ }
+{
+    let point = pen.point;
+    let none = Lined {
+        count: 0,
+        at,
+        point,
+    };
+    if out.len() - at < ROOM_FOR_STEP {
+        return none;
+    }
+    if !is_ready(pen, command, look) {
+        return none;
+    }
+    if command.opcode == POINT_SET {
+        let moved = moves(point, bytes, from, to);
+        let point = moved.point;
+        return Lined {
+            count: moved.count,
+            at,
+            point,
+        };
+    }
+    if command.opcode == LINE {
+        let head = head_of(look, 2, 0, 0, 0);
+        let pel = look.domain.pel;
+        return lines(point, head, pel, bytes, from, to, out, at);
+    }
+    none
 }

@@ -1,7 +1,8 @@
 // Runs of characters.
+use crate::Ran;
+use crate::most_steps;
 use drawing::closing::opened;
 use drawing::operands::rested;
-use crate::Ran;
 use figures::answers::ORIGIN;
 use records::head_of;
 use records::put_words;
@@ -30,20 +31,6 @@ fn last_character(set: Repertoire) -> u8
         Repertoire::Mosaic => 127,
         Repertoire::Drcs => 127,
     }
-}
-
-// How many characters can be read before the bytes end, or the room for a step.
-fn most_characters(left: usize, room: usize) -> usize
-    ensures { λ r. ⌜ (r ≤ left) × ((n : ℕ) → n < r → 40 * n + roomForStep ≤ room) ⌝ }
-{
-    if room < 120 {
-        return 0;
-    }
-    let places = (room - 80) / 40;
-    if left < places {
-        return left;
-    }
-    places
 }
 
 // Writes the records of at most so many characters. What they leave does not change after the first.
@@ -106,7 +93,7 @@ pub fn run_text(
     ensures ran { λ r. ⌜ ((m : List ℕ) → Run (Set.Characters set) (now (bytes .entry)) from (standing pen command look m at (now (out .entry))) (r .count) (standing (r .pen) (r .command) look m (r .at) (now (out .exit)))) ⌝ }
     ensures most { λ r. ⌜ from + r .count ≤ to ⌝ }
 {
-    let most = most_characters(to - from, out.len() - at);
+    let most = most_steps(to - from, out.len() - at);
     let count = put_characters(set, pen, command, look, bytes, from, most, out, at);
     if count == 0 {
         return Ran {

@@ -3,7 +3,7 @@ use Prim.Native.Nat.{_≤_, _-_}
 use native.Mathlib.Omega.{arith}
 use lib.ListN.{length}
 use borrow.Author.Needs.{needs}
-use Rattle.runs.proofs.TextLaws.{Typing, Typed, typed-none, typed-on}
+use Rattle.runs.proofs.TextLaws.{Typed, typed-none, typed-on}
 use Rattle.runs.proofs.text.put_characters.Statement.{statement}
 use Rattle.runs.proofs.text.put_characters.Tie as tie
 
