@@ -21,7 +21,7 @@ use tables::opcodes::row_of;
 ghost use mathlib.Core.Path.{_≡_};
 ghost use mathlib.Core.Bool.{true, false};
 ghost use mathlib.Core.List.{List};
-ghost use Prim.Native.Nat.{ℕ, _+_, _<_, _≤_};
+ghost use Prim.Native.Nat.{ℕ, _+_, _≤_};
 ghost use lib.ListN.{length};
 ghost use Rattle.rules.specs.declared.Set.{Set};
 ghost use Rattle.rules.specs.Ranges.{domainFits, commandFits};
@@ -54,13 +54,6 @@ fn leaves_strokes(opcode: u8, bytes: &[u8], place: usize, to: usize) -> bool
     requires { ⌜ (place ≤ to) × (to ≤ length (now bytes)) ⌝ }
 {
     is_stroke(opcode) && is_long(bytes, place, to)
-}
-
-// Whether there is no byte more, or no room for its step.
-fn is_over(place: usize, to: usize, room: usize) -> bool
-    ensures { λ r. ⌜ (r ≡ false → (place < to) × (120 ≤ room)) ⌝ }
-{
-    to <= place || room < ROOM_FOR_STEP
 }
 
 // Whether a byte is an opcode or a recorded control, and the open command leaves the look.
@@ -122,8 +115,8 @@ pub fn run_commands(
     let mut at = at;
     let mut point = pen.point;
     let mut command = command;
-    loop {
-        if is_over(place, to, out.len() - at) {
+    while place < to {
+        if out.len() - at < ROOM_FOR_STEP {
             return after(place - from, at, pen, point, command);
         }
         let role = role_due(row, command);
@@ -158,4 +151,5 @@ pub fn run_commands(
             }
         }
     }
+    after(place - from, at, pen, point, command)
 }

@@ -37,21 +37,18 @@ row-of-requires c κs = search needs
 
 loop-holds : tie.Need-loop-holds Inv-loop μ-loop
 loop-holds c =
-    let row-of· = c .before .row-of in
     let args· = c .before .before .before .before .before .before .before .before .args in
     let good· = c .before .before .before .before .before .before .before .before .good in
+    let row-of· = c .before .row-of in
     let pre· = c .before .before .before .before .before .before .before .before .pre in
-    -- What is told of the array in the pen
+    -- What is told of the array in the pen lent
     let eight = length-unmapped ℕ (args· .pen .operand .bytes) 8 (good· .0 .1 .1 .1 .0 .1 .1 .0 .1 .0 .1) in
     (row-of· .ensures, omega arith, pre· .3, refl, pre· .5, eight, after-own (args· .pen) (args· .from - args· .from), λ l m k h t. reaches-none _ _ _ _ l m _ _)
 
-sub-is-over : tie.Need-sub-is-over Inv-loop μ-loop
-sub-is-over c =
-    let loop· = c .loop in
+sub-if1 : tie.Need-sub-if1 Inv-loop μ-loop
+sub-if1 c =
+    let loop· = c .before .loop in
     loop· .inv .4
-
-is-over-requires : tie.Need-is-over-requires Inv-loop μ-loop
-is-over-requires c κs = search needs
 
 sub-after : tie.Need-sub-after Inv-loop μ-loop
 sub-after c =
@@ -80,11 +77,9 @@ role-due-requires c κs = search needs
 
 shared-slice-read-byte : tie.Need-shared-slice-read-byte Inv-loop μ-loop
 shared-slice-read-byte c =
-    let is-over· = c .before .before .before .is-over in
-    let if1· = c .before .before .if1 in
+    let loop-test· = c .before .before .before .loop-test in
     let pre· = c .before .before .before .before .before .before .before .before .before .before .before .before .before .pre in
-    let over = is-over· .ensures (if1· .left) in
-    omega (arith, over .0, pre· .4)
+    omega (arith, loop-test· .taken, pre· .4)
 
 opens-requires : tie.Need-opens-requires Inv-loop μ-loop
 opens-requires c κs = search needs
@@ -113,31 +108,25 @@ returns-2 c =
 
 open-next-requires : tie.Need-open-next-requires Inv-loop μ-loop
 open-next-requires c κs =
-    let is-over· = c .before .before .before .before .before .before .before .is-over in
-    let if1· = c .before .before .before .before .before .before .if1 in
     let opens· = c .before .before .opens in
     let if3· = c .before .if3 in
     let loop· = c .before .before .before .before .before .before .before .before .loop in
     let role-due· = c .before .before .before .before .before .role-due in
-    let over = is-over· .ensures (if1· .left) in
+    let if1· = c .before .before .before .before .before .before .if1 in
     let w = opens· .ensures (not-false (opens· .result) (if3· .left)) in
-    (loop· .inv .0, rw (← role-due· .ensures) (w .0), omega (arith, over .1, loop· .inv .4))
+    (loop· .inv .0, rw (← role-due· .ensures) (w .0), omega (arith, if1· .left, loop· .inv .4))
 
 add-place : tie.Need-add-place Inv-loop μ-loop
 add-place c =
-    let is-over· = c .before .before .before .before .before .before .before .before .before .before .before .before .before .is-over in
-    let if1· = c .before .before .before .before .before .before .before .before .before .before .before .before .if1 in
+    let loop-test· = c .before .before .before .before .before .before .before .before .before .before .before .before .before .loop-test in
     let fits· = c .before .before .before .before .before .before .before .before .before .before .before .before .before .before .before .before .before .before .before .before .before .before .before .fits in
-    let over = is-over· .ensures (if1· .left) in
-    omega (arith, over .0, fits· .to)
+    omega (arith, loop-test· .taken, fits· .to)
 
 leaves-strokes-requires : tie.Need-leaves-strokes-requires Inv-loop μ-loop
 leaves-strokes-requires c κs =
-    let is-over· = c .before .before .before .before .before .before .before .before .before .before .before .before .before .is-over in
-    let if1· = c .before .before .before .before .before .before .before .before .before .before .before .before .if1 in
+    let loop-test· = c .before .before .before .before .before .before .before .before .before .before .before .before .before .loop-test in
     let pre· = c .before .before .before .before .before .before .before .before .before .before .before .before .before .before .before .before .before .before .before .before .before .before .before .pre in
-    let over = is-over· .ensures (if1· .left) in
-    (omega (arith, over .0), pre· .4)
+    (omega (arith, loop-test· .taken), pre· .4)
 
 sub-after-3 : tie.Need-sub-after-3 Inv-loop μ-loop
 sub-after-3 c =
@@ -157,46 +146,42 @@ returns-3 : tie.Need-returns-3 Inv-loop μ-loop
 returns-3 c =
     let args· = c .before .before .before .before .before .before .before .before .before .before .before .before .before .before .before .before .before .before .before .before .before .before .before .before .before .before .args in
     let head-of· = c .before .before .before .before .before .before .before .before .before .before .before .before .before .before .before .before .before .before .before .before .before .before .before .head-of in
-    let is-over· = c .before .before .before .before .before .before .before .before .before .before .before .before .before .before .before .before .is-over in
-    let if1· = c .before .before .before .before .before .before .before .before .before .before .before .before .before .before .before .if1 in
     let opens· = c .before .before .before .before .before .before .before .before .before .before .before .opens in
     let if3· = c .before .before .before .before .before .before .before .before .before .before .if3 in
     let loop· = c .before .before .before .before .before .before .before .before .before .before .before .before .before .before .before .before .before .loop in
+    let loop-test· = c .before .before .before .before .before .before .before .before .before .before .before .before .before .before .before .before .loop-test in
     let after3· = c .after3 in
     let pre· = c .before .before .before .before .before .before .before .before .before .before .before .before .before .before .before .before .before .before .before .before .before .before .before .before .before .before .pre in
+    let if1· = c .before .before .before .before .before .before .before .before .before .before .before .before .before .before .before .if1 in
     let open-next· = c .before .before .before .before .before .before .before .before .open-next in
     let k : Inks _ _ (args· .look) = record { head = head-of· .ensures; size = refl } in
-    let over = is-over· .ensures (if1· .left) in
     let w = opens· .ensures (not-false (opens· .result) (if3· .left)) in
-    reaches-end _ _ _ _ _ _ _ _ _ _ (args· .look) _ _ _ (omega (arith, loop· .inv .1)) (omega (arith, over .0)) (after3· .ensures) (λ m. reaches-opened _ _ _ _ _ _ _ (args· .look) m _ _ _ _ _ _ _ (loop· .inv .1) (pre· .0) (loop· .inv .6) (omega (arith, over .1, loop· .inv .4)) (w .1) (λ o z. open-next· .ensures .0 (args· .look) o m k z) (loop· .inv .7 (args· .look) m k refl refl))
+    reaches-end _ _ _ _ _ _ _ _ _ _ (args· .look) _ _ _ (omega (arith, loop· .inv .1)) (omega (arith, loop-test· .taken)) (after3· .ensures) (λ m. reaches-opened _ _ _ _ _ _ _ (args· .look) m _ _ _ _ _ _ _ (loop· .inv .1) (pre· .0) (loop· .inv .6) (omega (arith, if1· .left, loop· .inv .4)) (w .1) (λ o z. open-next· .ensures .0 (args· .look) o m k z) (loop· .inv .7 (args· .look) m k refl refl))
 
 loop-less : tie.Need-loop-less Inv-loop μ-loop
 loop-less c =
-    let is-over· = c .before .before .before .before .before .before .before .before .before .before .before .before .before .before .before .is-over in
-    let if1· = c .before .before .before .before .before .before .before .before .before .before .before .before .before .before .if1 in
-    let over = is-over· .ensures (if1· .left) in
-    omega (arith, over .0)
+    let loop-test· = c .before .before .before .before .before .before .before .before .before .before .before .before .before .before .before .loop-test in
+    omega (arith, loop-test· .taken)
 
 loop-again : tie.Need-loop-again Inv-loop μ-loop
 loop-again c =
-    let args· = c .before .before .before .before .before .before .before .before .before .before .before .before .before .before .before .before .before .before .before .before .before .before .before .before .before .args in
-    let is-over· = c .before .before .before .before .before .before .before .before .before .before .before .before .before .before .before .is-over in
-    let if1· = c .before .before .before .before .before .before .before .before .before .before .before .before .before .before .if1 in
     let opens· = c .before .before .before .before .before .before .before .before .before .before .opens in
     let if3· = c .before .before .before .before .before .before .before .before .before .if3 in
     let open-next· = c .before .before .before .before .before .before .before .open-next in
     let loop· = c .before .before .before .before .before .before .before .before .before .before .before .before .before .before .before .before .loop in
+    let loop-test· = c .before .before .before .before .before .before .before .before .before .before .before .before .before .before .before .loop-test in
+    let if1· = c .before .before .before .before .before .before .before .before .before .before .before .before .before .before .if1 in
+    let args· = c .before .before .before .before .before .before .before .before .before .before .before .before .before .before .before .before .before .before .before .before .before .before .before .before .before .args in
     let pre· = c .before .before .before .before .before .before .before .before .before .before .before .before .before .before .before .before .before .before .before .before .before .before .before .before .before .pre in
-    let over = is-over· .ensures (if1· .left) in
     let w = opens· .ensures (not-false (opens· .result) (if3· .left)) in (
       open-next· .ensures .1,
       omega (arith, loop· .inv .1),
-      omega (arith, over .0),
+      omega (arith, loop-test· .taken),
       open-next· .kept .1 .1 .1 .1 .1 .1 .0 ∙ loop· .inv .3,
-      omega (arith, over .1, loop· .inv .4, open-next· .ensures .2, open-next· .kept .1 .1 .1 .1 .1 .1 .0),
+      omega (arith, if1· .left, loop· .inv .4, open-next· .ensures .2, open-next· .kept .1 .1 .1 .1 .1 .1 .0),
       loop· .inv .5,
       after-moved (args· .pen) (loop· .place + 1 - args· .from) (open-next· .result .point) (omega (arith, loop· .inv .1)),
-      λ l m k h t. reaches-opened _ _ _ _ _ _ _ l m _ _ _ _ _ _ _ (loop· .inv .1) (pre· .0) (loop· .inv .6) (omega (arith, over .1, loop· .inv .4)) (w .1) (λ o z. open-next· .ensures .0 l o m k z) (loop· .inv .7 l m k h t),
+      λ l m k h t. reaches-opened _ _ _ _ _ _ _ l m _ _ _ _ _ _ _ (loop· .inv .1) (pre· .0) (loop· .inv .6) (omega (arith, if1· .left, loop· .inv .4)) (w .1) (λ o z. open-next· .ensures .0 l o m k z) (loop· .inv .7 l m k h t),
     )
 
 point-due-requires : tie.Need-point-due-requires Inv-loop μ-loop
@@ -236,14 +221,12 @@ enum-known-whole c = search needs
 
 trace-requires : tie.Need-trace-requires Inv-loop μ-loop
 trace-requires c κs =
-    let is-over· = c .before .before .before .before .before .before .before .before .before .is-over in
-    let if1· = c .before .before .before .before .before .before .before .before .if1 in
     let point-due· = c .before .before .before .before .point-due in
     let whole· = c .before .before .whole in
+    let if1· = c .before .before .before .before .before .before .before .before .if1 in
     let loop· = c .before .before .before .before .before .before .before .before .before .before .loop in
-    let over = is-over· .ensures (if1· .left) in
     let w = point-due· .ensures _ (whole· .given .1) in
-    (w .0, omega (arith, over .1, loop· .inv .4))
+    (w .0, omega (arith, if1· .left, loop· .inv .4))
 
 with-due-requires : tie.Need-with-due-requires Inv-loop μ-loop
 with-due-requires c κs = search needs
@@ -269,26 +252,46 @@ loop-again-2 : tie.Need-loop-again-2 Inv-loop μ-loop
 loop-again-2 c =
     let args· = c .before .before .before .before .before .before .before .before .before .before .before .before .before .before .before .before .before .before .before .before .before .before .before .before .args in
     let pre· = c .before .before .before .before .before .before .before .before .before .before .before .before .before .before .before .before .before .before .before .before .before .before .before .before .pre in
-    let is-over· = c .before .before .before .before .before .before .before .before .before .before .before .before .before .before .is-over in
-    let if1· = c .before .before .before .before .before .before .before .before .before .before .before .before .before .if1 in
     let point-due· = c .before .before .before .before .before .before .before .before .before .point-due in
     let whole· = c .before .before .before .before .before .before .before .whole in
     let loop· = c .before .before .before .before .before .before .before .before .before .before .before .before .before .before .before .loop in
     let with-due· = c .with-due in
     let trace· = c .before .before .before .before .trace in
+    let if1· = c .before .before .before .before .before .before .before .before .before .before .before .before .before .if1 in
     let role-due· = c .before .before .before .before .before .before .before .before .before .before .before .before .role-due in
     let r = multi-range (args· .look .domain) (pre· .1) in
-    let over = is-over· .ensures (if1· .left) in
     let w = point-due· .ensures _ (whole· .given .1) in (
       loop· .inv .0 ∙ ap rowOf (sym (ap (λ (x : Command). x .opcode) (with-due· .ensures) ∙ trace· .ensures .1 .1)),
       omega (arith, loop· .inv .1),
       w .1,
       trace· .kept .1 .1 .1 .1 .1 .1 .1 .0 ∙ loop· .inv .3,
-      omega (arith, over .1, loop· .inv .4, trace· .ensures .1 .0, trace· .kept .1 .1 .1 .1 .1 .1 .1 .0),
+      omega (arith, if1· .left, loop· .inv .4, trace· .ensures .1 .0, trace· .kept .1 .1 .1 .1 .1 .1 .1 .0),
       loop· .inv .5,
       after-moved (args· .pen) (loop· .place + args· .look .domain .multi - args· .from) (trace· .result .point) (omega (arith, loop· .inv .1, r .0)),
-      λ l m k h t. reaches-point _ _ _ _ _ _ _ l m _ _ _ _ _ _ _ _ _ _ _ _ (loop· .inv .1) (pre· .0) (loop· .inv .5) (loop· .inv .6) (loop· .inv .0) (role-due· .ensures) (w .0) (omega (arith, over .1, loop· .inv .4)) h (r .0) (r .1) (omega (arith, w .1, pre· .4)) t (w .2) (λ bs a e. trace· .ensures .0 bs l a m k e) (with-due· .ensures) (loop· .inv .7 l m k h t),
+      λ l m k h t. reaches-point _ _ _ _ _ _ _ l m _ _ _ _ _ _ _ _ _ _ _ _ (loop· .inv .1) (pre· .0) (loop· .inv .5) (loop· .inv .6) (loop· .inv .0) (role-due· .ensures) (w .0) (omega (arith, if1· .left, loop· .inv .4)) h (r .0) (r .1) (omega (arith, w .1, pre· .4)) t (w .2) (λ bs a e. trace· .ensures .0 bs l a m k e) (with-due· .ensures) (loop· .inv .7 l m k h t),
     )
+
+sub-after-5 : tie.Need-sub-after-5 Inv-loop μ-loop
+sub-after-5 c =
+    let loop· = c .before .loop in
+    loop· .inv .1
+
+after-requires-5 : tie.Need-after-requires-5 Inv-loop μ-loop
+after-requires-5 c κs = search needs
+
+same-length-5 : tie.Need-same-length-5 Inv-loop μ-loop
+same-length-5 c =
+    let loop· = c .before .before .loop in
+    loop· .inv .3
+
+returns-5 : tie.Need-returns-5 Inv-loop μ-loop
+returns-5 c =
+    let args· = c .before .before .before .before .before .before .before .before .before .before .before .args in
+    let head-of· = c .before .before .before .before .before .before .before .before .head-of in
+    let loop· = c .before .before .loop in
+    let after5· = c .after5 in
+    let k : Inks _ _ (args· .look) = record { head = head-of· .ensures; size = refl } in
+    reaches-end _ _ _ _ _ _ _ _ _ _ (args· .look) _ _ _ (loop· .inv .1) (loop· .inv .2) (after5· .ensures) (λ m. loop· .inv .7 (args· .look) m k refl refl)
 
 pub run-commands-spec : {M : Type 1} → statement M
 run-commands-spec =
@@ -300,8 +303,7 @@ run-commands-spec =
     cast-n
     row-of-requires
     loop-holds
-    sub-is-over
-    is-over-requires
+    sub-if1
     sub-after
     after-requires
     same-length
@@ -333,4 +335,8 @@ run-commands-spec =
     with-due-requires
     add-place-2
     loop-less-2
-    loop-again-2)
+    loop-again-2
+    sub-after-5
+    after-requires-5
+    same-length-5
+    returns-5)
