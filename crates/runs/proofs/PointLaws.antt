@@ -1,13 +1,12 @@
 -- Points that come whole, in a run.
 -- Assumes nothing.
-use Prim.Native.Nat.{ℕ, suc, _+_, _-_, _≤_, _<_}
+use Prim.Native.Nat.{ℕ, suc, _+_, _-_, _≤_}
 use native.Mathlib.Omega.{arith}
 use mathlib.Core.Path.{_≡_, refl, sym, ap, _∙_, subst}
 use mathlib.Core.Bool.{Bool, true, false, _||_}
 use mathlib.Core.List.{List, [], _∷_}
 use lib.Dec.{eqb}
-use lib.ListN.{length, getD, take, drop, length-drop}
-use lib.Seq.{length-take-le, getD-take, getD-drop}
+use lib.ListN.{length, take, drop}
 use Rattle.rules.specs.declared.Command.{Command}
 use Rattle.rules.specs.declared.Domain.{Domain}
 use Rattle.rules.specs.declared.Drawing.{Drawing}
@@ -27,12 +26,13 @@ use Rattle.rules.specs.Drawing.{rowOf, roleOf, dueAfter, lengthOf, withDue, wit
 use Rattle.rules.proofs.Bools.{true-false, false-true, pick-yes}
 use Rattle.coordinates.specs.declared.whole.Whole.{Whole}
 use Rattle.coordinates.specs.declared.whole.Whole.the-variants.{Cut, Whole as Whole·point}
-use Rattle.coordinates.specs.Data.{isData, allData, wholeOf}
-use Rattle.coordinates.proofs.WholeLaws.{data-range, all-at}
+use Rattle.coordinates.specs.Data.{allData, wholeOf}
 use Rattle.figures.specs.Carried.{Carried, carry, drawingOf}
-use Rattle.runs.specs.Run.{Run, none, standing}
+use Rattle.runs.specs.Run.{Run, standing}
+use Rattle.runs.specs.Strokes.{penAfter}
 use Rattle.runs.specs.Tracing.{penAt, isPoint}
-use Rattle.runs.proofs.RunLaws.{whole-operand}
+use Rattle.runs.proofs.RunLaws.{each-data, whole-operand}
+use Rattle.runs.proofs.PdiLaws.{Reaches, after-fresh, after-eight, after-at, after-some}
 
 -- What a point's operand draws does not depend on the operand that the pen keeps
 pub record Steady (rule : Drawing → Outcome) (p : Point) (c : Command) (l : Look) (m : List ℕ) : Type 0 where
@@ -129,15 +129,6 @@ whole-tells three bs v e = by (allData bs) refl e
     by true a f = (a, sym (ap pointOf f))
     by false a f = cut-whole f
 
--- Each of them
-data-each : (bytes : List ℕ) (place k : ℕ) → place + k ≤ length bytes → allData (take k (drop place bytes)) ≡ true
-    → (j : ℕ) → j < k → (64 ≤ getD bytes (place + j) 0) × (getD bytes (place + j) 0 ≤ 127)
-data-each bytes place k h a j i =
-    let l = take k (drop place bytes) in
-    let s : length l ≡ k = length-take-le k (drop place bytes) (omega (arith, length-drop place bytes)) in
-    let e : getD l j 0 ≡ getD bytes (place + j) 0 = getD-take k (drop place bytes) j 0 i ∙ getD-drop place bytes j 0 in
-    data-range (getD bytes (place + j) 0) (sym (ap isData e) ∙ all-at l j (omega arith) a)
-
 -- A point of k bytes after a run's first n, traced
 module _ (bytes : List ℕ) (from n : ℕ) (x : Carried) (p : Point) (o : Operand) (c : Command) (l : Look) (m : List ℕ) (at : ℕ) (out : List ℕ) (k : ℕ) where
   abbrev bs : List ℕ
@@ -164,46 +155,45 @@ module _ (bytes : List ℕ) (from n : ℕ) (x : Carried) (p : Point) (o : Operan
       let g = t noOperand ∙ ap (λ (y : Outcome). carry y (d noOperand) at out) (s .draws noOperand) in
       let next : Carried → Carried = λ y. record { refused = y .refused; drawing = nextOperand (row .pattern) (y .drawing); at = y .at; output = y .output } in
       subst (Run Pdi bytes from x (n + k)) (sym (ap next g))
-      (whole-operand bytes from n x (d o) at out room k (point-length role (c .vertices) (l .domain) h ∙ sym e) some (data-each bytes (from + n) k fit a) fit most zero (s .end) (s .records) (s .draws) run)
+      (whole-operand bytes from n x (d o) at out room k (point-length role (c .vertices) (l .domain) h ∙ sym e) some (each-data bytes (from + n) k fit a) fit most zero (s .end) (s .records) (s .draws) run)
 
 -- The same with the names of a loop
-points-more : (bytes : List ℕ) (from n : ℕ) (x : Carried) (pen : Pen) (c : Command) (l : Look) (m : List ℕ) (at : ℕ) (out : List ℕ) (k : ℕ)
-    (row : Row) (role : Role) (three : Bool) (v q : Point) (c′ : Command) (at′ : ℕ) (out′ : List ℕ) (pen″ : Pen) (c″ : Command)
+points-more : (bytes : List ℕ) (from n : ℕ) (x : Carried) (p : Point) (o : Operand) (c : Command) (l : Look) (m : List ℕ) (at : ℕ) (out : List ℕ) (k : ℕ)
+    (row : Row) (role : Role) (three : Bool) (v q : Point) (c′ : Command) (at′ : ℕ) (out′ : List ℕ) (c″ : Command)
     → row ≡ rowOf (c .opcode) → role ≡ roleOf (row .pattern) (c .due) → isPoint role (c .vertices) ≡ true
-    → at + 120 ≤ length out → k ≡ l .domain .multi → 1 ≤ k → k ≤ length (pen .operand .bytes)
-    → from + n + k ≤ length bytes → pen .operand .count ≡ 0
+    → at + 120 ≤ length out → k ≡ l .domain .multi → 1 ≤ k → k ≤ length (o .bytes)
+    → from + n + k ≤ length bytes → o .count ≡ 0
     → three ≡ l .domain .three → wholeOf three (take k (drop (from + n) bytes)) ≡ Whole·point v
-    → ((bs : List ℕ) (a : Operand) → v ≡ point (l .domain .three) bs → standing (penAt q a) c′ l m at′ out′ ≡ carry (apply role row bs (drawingOf (penAt (pen .point) a) c l m)) (drawingOf (penAt (pen .point) a) c l m) at out)
-    → pen″ ≡ penAt q noOperand → c″ ≡ withDue (dueAfter (row .pattern) (c′ .due)) c′
-    → Run Pdi bytes from x n (standing pen c l m at out)
-    → Run Pdi bytes from x (n + k) (standing pen″ c″ l m at′ out′)
-points-more bytes from n x pen c l m at out k row role three v q c′ at′ out′ pen″ c″ er eo h room e some most fit zero et w t ep ec run =
+    → ((bs : List ℕ) (a : Operand) → v ≡ point (l .domain .three) bs → standing (penAt q a) c′ l m at′ out′ ≡ carry (apply role row bs (drawingOf (penAt p a) c l m)) (drawingOf (penAt p a) c l m) at out)
+    → c″ ≡ withDue (dueAfter (row .pattern) (c′ .due)) c′
+    → Run Pdi bytes from x n (standing (penAt p o) c l m at out)
+    → Run Pdi bytes from x (n + k) (standing (penAt q noOperand) c″ l m at′ out′)
+points-more bytes from n x p o c l m at out k row role three v q c′ at′ out′ c″ er eo h room e some most fit zero et w t ec run =
     let z = whole-tells three (take k (drop (from + n) bytes)) v w in
-    let t′ : (a : Operand) → standing (penAt q a) c′ l m at′ out′ ≡ carry (apply role row (take k (drop (from + n) bytes)) (drawingOf (penAt (pen .point) a) c l m)) (drawingOf (penAt (pen .point) a) c l m) at out =
+    let t′ : (a : Operand) → standing (penAt q a) c′ l m at′ out′ ≡ carry (apply role row (take k (drop (from + n) bytes)) (drawingOf (penAt p a) c l m)) (drawingOf (penAt p a) c l m) at out =
     λ a. t (take k (drop (from + n) bytes)) a (z .1 ∙ ap (λ (b : Bool). point b (take k (drop (from + n) bytes))) et) in
-    rw (ep, ec, er)
-    (point-run bytes from n x (pen .point) (pen .operand) c l m at out k room (rw (eo, er) at h) e some most fit zero (z .0) q c′ at′ out′ (rw (eo, er) at t′) run)
+    rw (ec, er)
+    (point-run bytes from n x p o c l m at out k room (rw (eo, er) at h) e some most fit zero (z .0) q c′ at′ out′ (rw (eo, er) at t′) run)
 
--- The same at the place i
-pub points-on : (bytes : List ℕ) (from i : ℕ) (x : Carried) (pen : Pen) (c : Command) (l : Look) (m : List ℕ) (at : ℕ) (out : List ℕ) (k : ℕ)
-    (row : Row) (role : Role) (three : Bool) (v q : Point) (c′ : Command) (at′ : ℕ) (out′ : List ℕ) (pen″ : Pen) (c″ : Command)
-    → from ≤ i → row ≡ rowOf (c .opcode) → role ≡ roleOf (row .pattern) (c .due) → isPoint role (c .vertices) ≡ true
-    → at + 120 ≤ length out → k ≡ l .domain .multi → 1 ≤ k → k ≤ length (pen .operand .bytes)
-    → i + k ≤ length bytes → pen .operand .count ≡ 0
+-- The same at the place i that a run from the pen p₀ has come to
+pub reaches-point : (bytes : List ℕ) (from : ℕ) (x : Carried) (p₀ : Pen) (i : ℕ) (p : Point) (c : Command) (l : Look) (m : List ℕ) (at : ℕ) (out : List ℕ) (k : ℕ)
+    (row : Row) (role : Role) (three : Bool) (v q : Point) (c′ : Command) (at′ : ℕ) (out′ : List ℕ) (c″ : Command)
+    → from ≤ i → p₀ .operand .count ≡ 0 → length (p₀ .operand .bytes) ≡ 8 → penAfter (i - from) p₀ p .point ≡ p
+    → row ≡ rowOf (c .opcode) → role ≡ roleOf (row .pattern) (c .due) → isPoint role (c .vertices) ≡ true
+    → at + 120 ≤ length out → k ≡ l .domain .multi → 1 ≤ k → k ≤ 8 → i + k ≤ length bytes
     → three ≡ l .domain .three → wholeOf three (take k (drop i bytes)) ≡ Whole·point v
-    → ((bs : List ℕ) (a : Operand) → v ≡ point (l .domain .three) bs → standing (penAt q a) c′ l m at′ out′ ≡ carry (apply role row bs (drawingOf (penAt (pen .point) a) c l m)) (drawingOf (penAt (pen .point) a) c l m) at out)
-    → pen″ ≡ penAt q noOperand → c″ ≡ withDue (dueAfter (row .pattern) (c′ .due)) c′
-    → Run Pdi bytes from x (i - from) (standing pen c l m at out)
-    → Run Pdi bytes from x (i + k - from) (standing pen″ c″ l m at′ out′)
-points-on bytes from i x pen c l m at out k row role three v q c′ at′ out′ pen″ c″ g er eo h room e some most fit zero et w t ep ec run =
-    let here : i ≡ from + (i - from) = omega arith in
-    let next : (i - from) + k ≡ i + k - from = omega arith in
+    → ((bs : List ℕ) (a : Operand) → v ≡ point (l .domain .three) bs → standing (penAt q a) c′ l m at′ out′ ≡ carry (apply role row bs (drawingOf (penAt p a) c l m)) (drawingOf (penAt p a) c l m) at out)
+    → c″ ≡ withDue (dueAfter (row .pattern) (c′ .due)) c′
+    → Reaches bytes from x p₀ i p c l m at out
+    → Reaches bytes from x p₀ (i + k) q c″ l m at′ out′
+reaches-point bytes from x p₀ i p c l m at out k row role three v q c′ at′ out′ c″ g z eight ep er eo h room e some most fit et w t ec run =
+    let n = i - from in
+    let o = penAfter n p₀ p .operand in
+    let here : i ≡ from + n = omega arith in
+    let next : n + k ≡ i + k - from = omega arith in
     let w′ = subst (λ (j : ℕ). wholeOf three (take k (drop j bytes)) ≡ Whole·point v) here w in
-    subst (λ (j : ℕ). Run Pdi bytes from x j (standing pen″ c″ l m at′ out′)) next
-    (points-more bytes from (i - from) x pen c l m at out k row role three v q c′ at′ out′ pen″ c″ er eo h room e some most (omega arith) zero et w′ t ep ec run)
-
--- None yet
-pub points-none : (bytes : List ℕ) (from : ℕ) (x : Carried) → Run Pdi bytes from x (from - from) x
-points-none bytes from x =
-    let e : 0 ≡ from - from = omega arith in
-    subst (λ (j : ℕ). Run Pdi bytes from x j x) e none
+    let before = subst (λ (y : Pen). Run Pdi bytes from x n (standing y c l m at out)) (after-at p₀ n p ep) run in
+    let traced =
+    points-more bytes from n x p o c l m at out k row role three v q c′ at′ out′ c″ er eo h room e some (omega (arith, after-eight p₀ n p eight)) (omega arith) (after-fresh p₀ n p z) et w′ t ec before in
+    subst (λ (y : Pen). Run Pdi bytes from x (i + k - from) (standing y c″ l m at′ out′)) (after-some p₀ (i + k - from) q (omega arith))
+    (subst (λ (j : ℕ). Run Pdi bytes from x j (standing (penAt q noOperand) c″ l m at′ out′)) next traced)

@@ -1,58 +1,97 @@
-// A run of the PDI set: points that come whole, and opcodes.
+// A run of the PDI set: points that come whole, opcodes and recorded controls.
+use crate::Ran;
 use crate::finishing::is_foreground;
 use crate::finishing::open_next;
-use drawing::operands::role_due;
+use crate::points::point_due;
 use crate::points::resting;
-use crate::points::trace_points;
-use crate::Ran;
+use crate::tracing::trace;
+use coordinates::whole::Whole;
+use coordinates::whole::are_data;
+use coordinates::whole::three_bytes;
+use drawing::operands::role_due;
+use drawing::operands::with_due;
 use records::head_of;
 use rules::Command;
 use rules::Look;
 use rules::Pen;
+use rules::Point;
 use rules::Role;
+use tables::controls::is_recorded;
 use tables::opcodes::row_of;
 ghost use mathlib.Core.Path.{_≡_};
 ghost use mathlib.Core.Bool.{true, false};
 ghost use mathlib.Core.List.{List};
-ghost use Prim.Native.Nat.{ℕ, _+_, _<_, _≤_};
-ghost use lib.ListN.{length, getD};
+ghost use Prim.Native.Nat.{ℕ, _+_, _≤_};
+ghost use lib.ListN.{length};
 ghost use Rattle.rules.specs.declared.Set.{Set};
 ghost use Rattle.rules.specs.Ranges.{domainFits, commandFits};
 ghost use Rattle.runs.specs.Run.{ActsAs, Run, standing};
+ghost use Rattle.runs.specs.Strokes.{penAfter};
 ghost use Rattle.runs.specs.Tracing.{isForeground, asked};
 
 const ROOM_FOR_STEP: usize = 120;
 
-// POINT SET and LINE, absolute: their points have a loop of their own, which begins where they are open.
-fn is_stroke(opcode: u8) -> bool {
+// POINT SET and LINE, absolute: many points of theirs have a loop of their own.
+pub fn is_stroke(opcode: u8) -> bool {
     opcode == 36 || opcode == 40
 }
 
-// Whether the byte at a place opens a command, with room for a step, and the one that is open leaves the look.
-fn opens(role: Role, bytes: &[u8], place: usize, to: usize, room: usize) -> bool
-    requires { ⌜ to ≤ length (now bytes) ⌝ }
-    ensures { λ r. ⌜ (r ≡ true → (place < to) × (120 ≤ room) × (isForeground role ≡ false) × ActsAs Set.Pdi (getD (now (bytes .entry)) place 0) (asked (getD (now (bytes .entry)) place 0))) ⌝ }
+// Whether four points of three bytes come at a place.
+fn is_long(bytes: &[u8], place: usize, to: usize) -> bool
+    requires { ⌜ (place ≤ to) × (to ≤ length (now bytes)) ⌝ }
 {
-    if to <= place {
+    if to - place < 12 {
         return false;
     }
-    if room < ROOM_FOR_STEP {
-        return false;
-    }
+    are_data(three_bytes(bytes, place))
+        && are_data(three_bytes(bytes, place + 3))
+        && are_data(three_bytes(bytes, place + 6))
+        && are_data(three_bytes(bytes, place + 9))
+}
+
+// Whether the points of the command just opened are left to the loop of strokes.
+fn leaves_strokes(opcode: u8, bytes: &[u8], place: usize, to: usize) -> bool
+    requires { ⌜ (place ≤ to) × (to ≤ length (now bytes)) ⌝ }
+{
+    is_stroke(opcode) && is_long(bytes, place, to)
+}
+
+// Whether a byte is an opcode or a recorded control, and the open command leaves the look.
+fn opens(role: Role, byte: u8) -> bool
+    ensures { λ r. ⌜ (r ≡ true → (isForeground role ≡ false) × ActsAs Set.Pdi byte (asked byte)) ⌝ }
+{
     if is_foreground(role) {
         return false;
     }
-    let byte = bytes[place];
     if byte < 32 {
-        return false;
-    }
-    if is_stroke(byte) {
-        return false;
+        return is_recorded(byte);
     }
     byte < 64
 }
 
-// As many bytes as come in whole points and opcodes; the ordinary step does the rest.
+// The pen after so many bytes, the last point given.
+fn pen_after(count: usize, pen: Pen, point: Point) -> Pen
+    ensures { λ r. ⌜ r ≡ penAfter count pen point ⌝ }
+{
+    if count == 0 {
+        return pen;
+    }
+    resting(point)
+}
+
+// What so many bytes leave, the pen lent and the last point given.
+fn after(count: usize, at: usize, pen: Pen, point: Point, command: Command) -> Ran
+    ensures { λ r. ⌜ r ≡ record { count = count; at = at; pen = penAfter count pen point; command = command } ⌝ }
+{
+    Ran {
+        count,
+        at,
+        pen: pen_after(count, pen, point),
+        command,
+    }
+}
+
+// As many bytes as come in whole points, opcodes and recorded controls; the ordinary step does the rest.
 pub fn run_commands(
     pen: Pen,
     command: Command,
@@ -72,45 +111,45 @@ pub fn run_commands(
     let pel = domain.pel;
     let n = domain.multi as usize;
     let mut row = row_of(command.opcode);
-    let mut count: usize = 0;
+    let mut place = from;
     let mut at = at;
-    let mut pen = pen;
+    let mut point = pen.point;
     let mut command = command;
-    loop {
-        let ran = trace_points(
-            row,
-            pen,
-            command,
-            ink,
-            pel,
-            n,
-            domain.three,
-            bytes,
-            from + count,
-            to,
-            out,
-            at,
-        );
-        count += ran.count;
-        at = ran.at;
-        pen = ran.pen;
-        command = ran.command;
-        let role = role_due(row, command);
-        let place = from + count;
-        if !opens(role, bytes, place, to, out.len() - at) {
-            return Ran {
-                count,
-                at,
-                pen,
-                command,
-            };
+    while place < to {
+        if out.len() - at < ROOM_FOR_STEP {
+            return after(place - from, at, pen, point, command);
         }
-        let point = pen.point;
-        let next = open_next(bytes[place], row, point, command, ink, pel, out, at);
-        at = next.at;
-        pen = resting(next.point);
-        command = next.command;
-        row = next.row;
-        count += 1;
+        let role = role_due(row, command);
+        let byte = bytes[place];
+        if byte < 64 {
+            if !opens(role, byte) {
+                return after(place - from, at, pen, point, command);
+            }
+            let next = open_next(byte, row, point, command, ink, pel, out, at);
+            at = next.at;
+            point = next.point;
+            command = next.command;
+            row = next.row;
+            place += 1;
+            if leaves_strokes(byte, bytes, place, to) {
+                return after(place - from, at, pen, point, command);
+            }
+            continue;
+        }
+        let whole = point_due(role, command.vertices, n, domain.three, bytes, place, to);
+        match whole {
+            Whole::Cut => {
+                return after(place - from, at, pen, point, command);
+            }
+            Whole::Whole(v) => {
+                let t = trace(role, row, v, point, command, ink, pel, out, at);
+                at = t.at;
+                point = t.point;
+                command = with_due(row, t.command);
+                place += n;
+                continue;
+            }
+        }
     }
+    after(place - from, at, pen, point, command)
 }

@@ -1,8 +1,8 @@
 // Commands finished and opened in a run, with no operand begun.
-use drawing::closing::opened;
-use drawing::operands::role_due;
 use crate::tracing::put_arc;
 use crate::tracing::put_figure;
+use drawing::closing::opened;
+use drawing::operands::role_due;
 use figures::answers::ORIGIN;
 use records::Head;
 use records::flags;
