@@ -15,10 +15,10 @@ use Rattle.rules.specs.Expansion.{expansion, endPage, Accepted, allRecords, Sam
 use Rattle.rules.proofs.Readings.{Waits, refused-done}
 use Rattle.rules.proofs.Demand3.{ReadsUndivided, cut-alike, drawn-alike}
 use Rattle.reader.specs.declared.open.Opened.{Opened}
-use Rattle.reader.specs.declared.feed.Fed.{Fed}
+use Rattle.reading.specs.declared.Fed.{Fed}
 use Rattle.reader.specs.declared.end.Ended.{Ended}
 use Rattle.reader.specs.Answers.{openingOf}
-use Rattle.reader.specs.Handing.{stateLent, handedOf}
+use Rattle.reading.specs.Handing.{stateLent, handedOf}
 use Rattle.reader.specs.Ending.{endingOf}
 
 -- A list of feed calls as they were made, from a session s and a store st, with bs left unread before: each answered by feed's

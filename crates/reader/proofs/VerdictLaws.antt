@@ -17,7 +17,7 @@ use Rattle.rules.specs.Calls.{handed, feed}
 use Rattle.rules.proofs.Steps.{Valid, tests-valid}
 use Rattle.rules.proofs.Readings.{reads-failed, reads-passed}
 use Rattle.reader.specs.Answers.{inOrder}
-use Rattle.reader.specs.Handing.{stateLent, handedOf}
+use Rattle.reading.specs.Handing.{stateLent, handedOf}
 
 -- The ranges: of the bodies, then of what is waited for, then of drawing
 pub fits-not : (s : Session) → bodiesFit (s .bodies) ≡ false → false ≡ fits s

@@ -1,3 +1,2 @@
-pub mod Handing
 pub mod Ending
 pub mod Answers

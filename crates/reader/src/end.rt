@@ -25,7 +25,7 @@ ghost use Rattle.rules.specs.Calls.{handed, ended, ending, end};
 ghost use Rattle.rules.specs.Reading.{roomForStep};
 ghost use Rattle.rules.proofs.RecordCount.{closed};
 ghost use Rattle.rules.proofs.Steps.{Valid};
-ghost use Rattle.reader.specs.Handing.{stateLent};
+ghost use Rattle.reading.specs.Handing.{stateLent};
 ghost use Rattle.reader.specs.Ending.{endingOf, sessionWith};
 
 // Room for three records.

@@ -234,7 +234,7 @@ pub after-body : (d n at : ℕ) → (d ≡ 0 → ⊥) → placeAfter d n at ≡ 
 after-body zero n at h = absurd (h refl)
 after-body (suc i) n at h = refl
 
-after-same : (d at : ℕ) → placeAfter d 0 at ≡ at
+pub after-same : (d at : ℕ) → placeAfter d 0 at ≡ at
 after-same zero at = add-zero at
 after-same (suc i) at = refl
 

@@ -1,6 +1,6 @@
 use borrow.Author.Needs.{needs}
-use Rattle.reader.proofs.feed.finish.Statement.{statement}
-use Rattle.reader.proofs.feed.finish.Tie as tie
+use Rattle.reading.proofs.finish.Statement.{statement}
+use Rattle.reading.proofs.finish.Tie as tie
 
 status-after-requires : tie.Need-status-after-requires
 status-after-requires c κs = search needs

@@ -20,7 +20,7 @@ use Rattle.turns.specs.declared.step.Course.{Course}
 use Rattle.turns.specs.declared.step.Course.the-variants.{GoesOn, Ends as Ends·course, Draws}
 use Rattle.turns.specs.Turn.{Turn, Ends, Steps, turn, Left, leaves}
 use Rattle.turns.specs.Walk.{budgetLeft}
-use Rattle.reader.proofs.Turns.{Advance, Follows, turn-follows}
+use Rattle.reading.proofs.Turns.{Advance, Follows, turn-follows}
 
 -- So many bytes consumed and records written before a reading
 abbrev ahead : ℕ → List ℕ → Reading → Reading

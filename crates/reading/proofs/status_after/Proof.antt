@@ -1,6 +1,6 @@
 use borrow.Author.Needs.{needs}
-use Rattle.reader.proofs.feed.status_after.Statement.{statement}
-use Rattle.reader.proofs.feed.status_after.Tie as tie
+use Rattle.reading.proofs.status_after.Statement.{statement}
+use Rattle.reading.proofs.status_after.Tie as tie
 
 enum-told : tie.Need-enum-told
 enum-told c = search needs

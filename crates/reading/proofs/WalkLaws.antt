@@ -11,8 +11,8 @@ use Rattle.rules.proofs.Readings.{reading-removed}
 use Rattle.rules.proofs.Steps.{Valid, remove-later}
 use Rattle.turns.specs.Turn.{Steps, turn}
 use Rattle.turns.specs.Walk.{Place, budgetLeft, Walk, none, removed, step}
-use Rattle.reader.proofs.Turns.{Advance, Follows, turn-follows}
-use Rattle.reader.proofs.Whole.{Kept, kept-on}
+use Rattle.reading.proofs.Turns.{Advance, Follows, turn-follows}
+use Rattle.reading.proofs.Whole.{Kept, kept-on}
 
 module _ (piece : List ℕ) where
   abbrev room : Place → ℕ

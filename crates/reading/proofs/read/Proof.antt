@@ -1,6 +1,6 @@
-use Rattle.reader.proofs.ReadLaws.{loop-first, loop-on, loop-ends, loop-draws, loop-refused, drawn-due, drawn-room, kept-removed, kept-coded, kept-drawn}
+use Rattle.reading.proofs.ReadLaws.{loop-first, loop-on, loop-ends, loop-draws, loop-refused, drawn-due, drawn-room, kept-removed, kept-coded, kept-drawn}
 use Rattle.turns.proofs.ProgressLaws.{valid-domain, valid-command}
-use Rattle.reader.proofs.Whole.{Kept}
+use Rattle.reading.proofs.Whole.{Kept}
 use Rattle.turns.proofs.TurnLaws.{valid-store, valid-depth}
 use Rattle.turns.specs.declared.step.Progress.{Progress}
 use Rattle.turns.specs.View.{stateAt}
@@ -11,8 +11,8 @@ use native.Mathlib.Omega.{arith}
 use mathlib.Core.Path.{refl, sym, ap, _∙_}
 use lib.ListN.{length}
 use Prim.Native.Nat.{_-_}
-use Rattle.reader.proofs.feed.read.Statement.{statement}
-use Rattle.reader.proofs.feed.read.Tie as tie
+use Rattle.reading.proofs.read.Statement.{statement}
+use Rattle.reading.proofs.read.Tie as tie
 
 abbrev Inv-loop : tie.InvT-loop
 Inv-loop store₀ piece out₀ budget cells₀ places₀ firsts₀ map₀ pen₀ command₀ look₀ progress₀ store out cells places firsts map pen command look progress =

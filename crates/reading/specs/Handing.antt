@@ -5,7 +5,7 @@ use Rattle.rules.specs.declared.Answer.{Answer}
 use Rattle.rules.specs.declared.Session.{Session}
 use Rattle.rules.specs.Step.{State}
 use Rattle.rules.specs.Calls.{Handed}
-use Rattle.reader.specs.declared.feed.Fed.{Fed}
+use Rattle.reading.specs.declared.Fed.{Fed}
 use Rattle.turns.specs.declared.step.Progress.{Progress}
 
 abbrev pub stateLent : Session → List ℕ → State

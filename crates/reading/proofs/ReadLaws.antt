@@ -1,5 +1,7 @@
 -- The loop of a reading over the parts that the code holds
-use Prim.Native.Nat.{ℕ, _+_, _-_, _<_, _≤_}
+use Prim.Native.Nat.{ℕ, zero, suc, _+_, _-_, _<_, _≤_}
+use native.Mathlib.Nat.{add-zero}
+use native.Mathlib.Omega.{arith}
 use mathlib.Core.Path.{_≡_, refl, sym, ap, _∙_, subst}
 use mathlib.Core.Bool.{true, false}
 use mathlib.Core.List.{List}
@@ -11,12 +13,12 @@ use Rattle.rules.specs.declared.Command.{Command}
 use Rattle.rules.specs.declared.Drawing.{Drawing}
 use Rattle.rules.specs.declared.Look.{Look}
 use Rattle.rules.specs.declared.Pen.{Pen}
+use Rattle.rules.specs.declared.Point.{Point}
 use Rattle.rules.specs.declared.Refusal.the-variants.{TooManyVertices}
 use Rattle.rules.specs.declared.Session.{Session}
 use Rattle.rules.specs.declared.Status.{Status}
 use Rattle.rules.specs.Step.{State}
-use Rattle.rules.specs.Bodies.{depthLeft}
-use Rattle.rules.specs.Drawing.{act}
+use Rattle.rules.specs.Drawing.{noOperand, act}
 use Rattle.rules.specs.Reading.{Room, roomForStep, reading}
 use Rattle.rules.specs.Calls.{handed}
 use Rattle.rules.proofs.Steps.{Valid}
@@ -26,16 +28,15 @@ use Rattle.bodies.specs.Stack.{bodiesOf}
 use Rattle.turns.specs.declared.step.Course.the-variants.{GoesOn, Ends, Draws}
 use Rattle.turns.specs.declared.step.Progress.{Progress}
 use Rattle.turns.specs.declared.step.Turned.{Turned}
-use Rattle.reader.specs.declared.feed.Fed.{Fed}
+use Rattle.reading.specs.declared.Fed.{Fed}
 use Rattle.turns.specs.Turn.{turn, Left, leaves}
 use Rattle.turns.specs.View.{stateAt, answered, sessionAfter, leftOf, startOf, atDepth, writtenTo, DueBy, Due, RoomBy, readOnIf}
-use Rattle.reader.specs.Handing.{stateLent, handedOf, fedOf}
-use Rattle.runs.specs.declared.Ran.{Ran}
-use Rattle.turns.specs.Walk.{placeAt, Walk, placeAfter, ranOn}
+use Rattle.reading.specs.Handing.{stateLent, handedOf, fedOf}
+use Rattle.runs.specs.Strokes.{penAfter}
+use Rattle.turns.specs.Walk.{placeAfter, ranOn}
 use Rattle.turns.proofs.StepLaws.{draw-refused, draw-goes}
-use Rattle.reader.proofs.WalkLaws.{walk-keeps}
-use Rattle.turns.proofs.ProgressLaws.{walk-removed}
-use Rattle.reader.proofs.Whole.{Kept, Next, kept-first, kept-next, wholeReading}
+use Rattle.turns.proofs.ProgressLaws.{after-same}
+use Rattle.reading.proofs.Whole.{Kept, Next, kept-first, kept-next, wholeReading}
 
 -- The state once a reading has ended, as a session
 ended-state : (a : Answer) (budget : ℕ) (p : Progress) (cells places firsts : List ℕ) (d : Drawing) (st : List ℕ)
@@ -51,6 +52,22 @@ drawn-due r p a g u = rw g at u
 
 pub drawn-room : (r : Turned) (n : ℕ) (a : Action) → r .course ≡ Draws a → RoomBy (r .course) n → roomForStep ≤ n
 drawn-room r n a g u = rw g at u
+
+-- After a run of no bytes all stands as it did
+pub kept-still : (w : State) (piece out₀ : List ℕ) (budget : ℕ) (p : Progress) (cells places firsts : List ℕ) (pen : Pen) (command : Command) (look : Look) (map st out : List ℕ)
+    → (n written : ℕ) (pen₁ : Pen) (command₁ : Command) → n ≡ 0 → written ≡ p .written → pen₁ ≡ pen → command₁ ≡ command
+    → Kept w piece out₀ (stateAt budget (ranOn n written p) cells places firsts (drawingOf pen₁ command₁ look map) st) (placeAfter (p .depth) n (p .at)) written out
+    → Kept w piece out₀ (stateAt budget p cells places firsts (drawingOf pen command look map) st) (p .at) (p .written) out
+kept-still w piece out₀ budget p cells places firsts pen command look map st out n written pen₁ command₁ e f g h k =
+    rw (e, f, g, h, after-same (p .depth) (p .at), add-zero (p .steps)) at k
+
+-- After a run of strokes the pen rests at their last point
+pub kept-strokes : (w : State) (piece out₀ : List ℕ) (budget : ℕ) (p : Progress) (cells places firsts : List ℕ) (pen : Pen) (command : Command) (look : Look) (map st out : List ℕ)
+    → (n written : ℕ) (q : Point) → 0 < n → (t : Progress) → t ≡ ranOn n written p → (pen₁ : Pen) → pen₁ ≡ record { point = q; operand = noOperand }
+    → Kept w piece out₀ (stateAt budget (ranOn n written p) cells places firsts (drawingOf (penAfter n pen q) command look map) st) (placeAfter (p .depth) n (p .at)) written out
+    → Kept w piece out₀ (stateAt budget t cells places firsts (drawingOf pen₁ command look map) st) (t .at) (t .written) out
+kept-strokes w piece out₀ budget p cells places firsts pen command look map st out zero written q l t e pen₁ f k = absurd (omega (arith, l))
+kept-strokes w piece out₀ budget p cells places firsts pen command look map st out (suc n) written q l t e pen₁ f k = rw (e, f) k
 
 module _ (s : Session) (st₀ piece out₀ : List ℕ) (valid : Valid (stateLent s st₀)) (p₀ : Progress) (e₀ : p₀ ≡ startOf s) where
   -- The state that is lent, in parts
@@ -70,26 +87,6 @@ module _ (s : Session) (st₀ piece out₀ : List ℕ) (valid : Valid (stateLent
   loop-first =
       subst (λ (q : Progress). Kept first piece out₀ first (q .at) (q .written) out₀) (sym e₀)
       (kept-first first piece out₀ (subst Valid (sym first-lent) valid))
-
-  -- Runs before a turn: spent bodies removed, then bytes that write no record, then bytes that are drawn
-  module _ (p : Progress) (cells places firsts : List ℕ) (pen : Pen) (command : Command) (look : Look) (map st out : List ℕ)
-      (i : Kept first piece out₀ (stateAt (s .budget) p cells places firsts (drawingOf pen command look map) st) (p .at) (p .written) out)
-      (d : ℕ) (e : d ≡ depthLeft st (bodiesOf (p .depth) cells places) (p .depth)) (q : Progress) (f : q ≡ atDepth d p)
-    where
-      pub kept-removed : (Kept first piece out₀ (stateAt (s .budget) q cells places firsts (drawingOf pen command look map) st) (q .at) (q .written) out) × (p .steps ≤ q .steps)
-      kept-removed = walk-keeps piece first out₀ (walk-removed (s .budget) p cells places firsts (drawingOf pen command look map) st piece out d e q f) i
-
-      module _ (free : ℕ) (h : free ≡ length out - q .written) (r : Progress) (cells₁ places₁ firsts₁ st₁ : List ℕ)
-          (w : (g : Drawing) (l : List ℕ) → free ≡ length l - q .written → Walk piece (placeAt (s .budget) q cells places firsts g st l) (placeAt (s .budget) r cells₁ places₁ firsts₁ g st₁ l))
-        where
-          pub kept-coded : (Kept first piece out₀ (stateAt (s .budget) r cells₁ places₁ firsts₁ (drawingOf pen command look map) st₁) (r .at) (r .written) out) × (q .steps ≤ r .steps)
-          kept-coded = walk-keeps piece first out₀ (w (drawingOf pen command look map) out h) (kept-removed .0)
-
-          pub kept-drawn : (ran : Ran) (cells₂ places₂ out₁ : List ℕ)
-              → ((x m : List ℕ) → Walk piece (placeAt (s .budget) r cells₁ places₁ x (drawingOf pen command look m) st₁ out) (placeAt (s .budget) (ranOn (placeAfter (r .depth) (ran .count) (r .at)) ran r) cells₂ places₂ x (drawingOf (ran .pen) (ran .command) look m) st₁ out₁))
-              → (t : Progress) → t ≡ ranOn (placeAfter (r .depth) (ran .count) (r .at)) ran r
-              → (Kept first piece out₀ (stateAt (s .budget) t cells₂ places₂ firsts₁ (drawingOf (ran .pen) (ran .command) look map) st₁) (t .at) (t .written) out₁) × (r .steps ≤ t .steps)
-          kept-drawn ran cells₂ places₂ out₁ v t g = rw g (walk-keeps piece first out₀ (v firsts₁ map) (kept-coded .0))
 
   -- A reading that has ended hands the whole over
   hands-over : (a : Answer) (p : Progress) (cells places firsts : List ℕ) (d : Drawing) (st out : List ℕ)
