@@ -32,8 +32,8 @@ use Rattle.figures.specs.Carried.{drawingOf}
 use Rattle.runs.specs.Run.{Run, standing}
 use Rattle.runs.specs.declared.Ran.{Ran}
 use Rattle.coding.specs.View.{codingOf}
-use Rattle.coding.specs.Idle.{Idle, coded}
-use Rattle.coding.specs.declared.idle.Idled.{Idled}
+use Rattle.idle.specs.Idle.{Idle, coded}
+use Rattle.idle.specs.declared.Idled.{Idled}
 use Rattle.turns.specs.declared.step.Progress.{Progress}
 use Rattle.turns.specs.View.{atDepth}
 use Rattle.turns.specs.Walk.{Place, placeAt, Walk, none, removed, placeAfter, ranOn, codedOn}

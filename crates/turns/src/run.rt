@@ -4,7 +4,7 @@ use crate::turn::ROOM_FOR_STEP;
 use bodies::body_at;
 use bodies::calls::empty_calls;
 use bodies::set_body;
-use coding::idle::run_idle;
+use idle::run_idle;
 use runs::pdi::run_pdi;
 use runs::Ran;
 use runs::text::run_text;

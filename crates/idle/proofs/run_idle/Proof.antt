@@ -6,11 +6,11 @@ use lib.ListN.{length}
 use borrow.Author.Needs.{needs}
 use borrow.Author.Tests.{not-true, not-false}
 use Rattle.rules.specs.Ranges.{waitingFits}
-use Rattle.coding.specs.Idle.{Idle, coded, none}
+use Rattle.idle.specs.Idle.{Idle, coded, none}
 use Rattle.coding.specs.View.{codingOf}
-use Rattle.coding.proofs.IdleLaws.{idle-on, idle-join, idle-reacts, idle-fits, busy-keeps}
-use Rattle.coding.proofs.idle.run_idle.Statement.{statement}
-use Rattle.coding.proofs.idle.run_idle.Tie as tie
+use Rattle.idle.proofs.IdleLaws.{idle-on, idle-join, idle-reacts, idle-fits, busy-keeps}
+use Rattle.idle.proofs.run_idle.Statement.{statement}
+use Rattle.idle.proofs.run_idle.Tie as tie
 
 abbrev Inv-loop : tie.InvT-loop
 Inv-loop firsts₀ store₀ bytes from to sets₀ waiting₀ count₀ firsts store sets waiting count = (from + count ≤ to) × (length store ≡ 8192) × (waitingFits waiting ≡ true) × (Idle bytes from (coded (codingOf sets₀ waiting₀ firsts₀) store₀) count (coded (codingOf sets waiting firsts) store))

@@ -1,9 +1,9 @@
 use mathlib.Core.Path.{refl}
-use Rattle.coding.specs.Idle.{idleAction, idleEffect}
-use Rattle.coding.proofs.IdleLaws.{others-act}
+use Rattle.idle.specs.Idle.{idleAction, idleEffect}
+use Rattle.idle.proofs.IdleLaws.{others-act}
 use borrow.Author.Needs.{needs}
-use Rattle.coding.proofs.idle.is_idle.Statement.{statement}
-use Rattle.coding.proofs.idle.is_idle.Tie as tie
+use Rattle.idle.proofs.is_idle.Statement.{statement}
+use Rattle.idle.proofs.is_idle.Tie as tie
 
 enum-told : tie.Need-enum-told
 enum-told c = search needs

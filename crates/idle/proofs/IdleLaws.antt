@@ -26,12 +26,12 @@ use Rattle.rules.specs.Ranges.{waitingFits}
 use Rattle.rules.specs.Store.{Filling, Stored, storeByte}
 use Rattle.macros.specs.Runs.{Plain, Stores, none as stored-none, more as stored-more}
 use Rattle.macros.specs.Storing.{fillingOf}
-use Rattle.coding.specs.Idle.{Coded, coded, Idle, none, more, idleAction, idleEffect}
+use Rattle.idle.specs.Idle.{Coded, coded, Idle, none, more, idleAction, idleEffect}
 use Rattle.coding.specs.View.{codingOf, effectOn, reactionOf, KeptBy, Kept}
 use Rattle.coding.specs.declared.reactions.Effect.{Effect}
 use Rattle.coding.specs.declared.reactions.Effect.the-variants.{Refuses, Calls, Acts}
 use Rattle.coding.specs.declared.reactions.Reacted.{Reacted}
 use Rattle.coding.proofs.EffectLaws.{act-kept}
 
 -- A run goes on by a byte, and by a run
 module _ (bytes : List ℕ) (from : ℕ) {x : Coded} (n : ℕ) where

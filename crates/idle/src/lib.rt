@@ -1,6 +1,6 @@
 // Runs of idle bytes: those that ask nothing of drawing and call no macro, many in one call.
-use crate::react;
-use crate::reactions::Effect;
+use coding::react;
+use coding::reactions::Effect;
 use macros::filling::store_run;
 use rules::Action;
 use rules::Sets;
@@ -12,8 +12,8 @@ ghost use mathlib.Core.Path.{_≡_};
 ghost use Prim.Native.Nat.{ℕ, _+_, _<_, _≤_};
 ghost use Rattle.rules.specs.Ranges.{waitingFits};
 ghost use Rattle.macros.specs.Lent.{Sized};
-ghost use Rattle.coding.specs.Idle.{Idle, coded, idleEffect};
+ghost use Rattle.idle.specs.Idle.{Idle, coded, idleEffect};
 ghost use Rattle.coding.specs.View.{codingOf};
 
 // How many bytes were read, and the state after them. First cells and store are lent beside.
 pub struct Idled {

@@ -1,7 +1,7 @@
 use Rattle.rules.proofs.Bools.{false-true}
 use borrow.Author.Needs.{needs}
-use Rattle.coding.proofs.idle.may_be_idle.Statement.{statement}
-use Rattle.coding.proofs.idle.may_be_idle.Tie as tie
+use Rattle.idle.proofs.may_be_idle.Statement.{statement}
+use Rattle.idle.proofs.may_be_idle.Tie as tie
 
 returns : tie.Need-returns
 returns c = λ e. false-true e

@@ -1,8 +1,8 @@
-use Rattle.coding.specs.Idle.{none}
-use Rattle.coding.proofs.IdleLaws.{body-runs}
+use Rattle.idle.specs.Idle.{none}
+use Rattle.idle.proofs.IdleLaws.{body-runs}
 use borrow.Author.Needs.{needs}
-use Rattle.coding.proofs.idle.run_body.Statement.{statement}
-use Rattle.coding.proofs.idle.run_body.Tie as tie
+use Rattle.idle.proofs.run_body.Statement.{statement}
+use Rattle.idle.proofs.run_body.Tie as tie
 
 enum-known-waiting : tie.Need-enum-known-waiting
 enum-known-waiting c = search needs
