@@ -25,7 +25,7 @@ use Rattle.rules.specs.Coding.{React, keep, inBody, reactTo, react}
 use Rattle.rules.specs.Ranges.{waitingFits}
 use Rattle.rules.specs.Store.{Filling, Stored, storeByte}
 use Rattle.macros.specs.Runs.{Plain, Stores, none as stored-none, more as stored-more}
-use Rattle.macros.specs.Storing.{fillingOf}
+use Rattle.storing.specs.Storing.{fillingOf}
 use Rattle.idle.specs.Idle.{Coded, coded, Idle, none, more, idleAction, idleEffect}
 use Rattle.coding.specs.View.{codingOf, effectOn, reactionOf, KeptBy, Kept}
 use Rattle.coding.specs.declared.reactions.Effect.{Effect}

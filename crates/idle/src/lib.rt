@@ -1,10 +1,10 @@
 // Runs of idle bytes: those that ask nothing of drawing and call no macro, many in one call.
 use coding::react;
 use coding::reactions::Effect;
-use macros::filling::store_run;
 use rules::Action;
 use rules::Sets;
 use rules::Waiting;
+use storing::filling::store_run;
 ghost use lib.ListN.{length};
 ghost use mathlib.Core.Bool.{true};
 ghost use mathlib.Core.List.{List};

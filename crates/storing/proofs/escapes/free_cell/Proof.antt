@@ -1,8 +1,8 @@
 use borrow.Author.Tests.{eq-eqb, ne-eqb}
-use Rattle.macros.specs.Room.{freeCell}
+use Rattle.storing.specs.Room.{freeCell}
 use borrow.Author.Needs.{needs}
-use Rattle.macros.proofs.escapes.free_cell.Statement.{statement}
-use Rattle.macros.proofs.escapes.free_cell.Tie as tie
+use Rattle.storing.proofs.escapes.free_cell.Statement.{statement}
+use Rattle.storing.proofs.escapes.free_cell.Tie as tie
 
 next-of-requires : tie.Need-next-of-requires
 next-of-requires c κs = search needs

@@ -1,12 +1,12 @@
 use mathlib.Core.Path.{sym, _∙_}
 use native.Mathlib.Omega.{arith}
 use borrow.Author.Tests.{not-false}
 use Rattle.macros.specs.Runs.{none}
 use Rattle.macros.proofs.CellLaws.{good-most}
-use Rattle.macros.proofs.RunLaws.{run-stored}
+use Rattle.storing.proofs.RunLaws.{run-stored}
 use borrow.Author.Needs.{needs}
-use Rattle.macros.proofs.filling.store_run.Statement.{statement}
-use Rattle.macros.proofs.filling.store_run.Tie as tie
+use Rattle.storing.proofs.filling.store_run.Statement.{statement}
+use Rattle.storing.proofs.filling.store_run.Tie as tie
 
 count-of-requires : tie.Need-count-of-requires
 count-of-requires c κs = search needs

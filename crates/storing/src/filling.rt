@@ -1,16 +1,16 @@
 // A run of bytes of the open definition, stored while its last cell has room.
-use crate::cells::MOST_BYTES;
-use crate::cells::count_of;
-use crate::cells::good_count;
-use crate::cells::lay_bytes;
-use crate::cells::set_count;
+use macros::cells::MOST_BYTES;
+use macros::cells::count_of;
+use macros::cells::good_count;
+use macros::cells::lay_bytes;
+use macros::cells::set_count;
 ghost use lib.ListN.{length};
 ghost use mathlib.Core.List.{List};
 ghost use mathlib.Core.Path.{_≡_};
 ghost use Prim.Native.Nat.{ℕ, _+_, _-_, _≤_};
 ghost use Rattle.macros.specs.Lent.{Sized};
 ghost use Rattle.macros.specs.Runs.{Stores};
-ghost use Rattle.macros.specs.Storing.{fillingOf};
+ghost use Rattle.storing.specs.Storing.{fillingOf};
 
 // Where a run of at most so many bytes ends.
 fn run_end(from: usize, to: usize, room: u8) -> usize

@@ -1,8 +1,8 @@
 use borrow.Author.Tests.{eq-eqb, ne-eqb, lt-ltb, le-ltb, not-true, not-false}
-use Rattle.macros.specs.Room.{roomForTwo}
+use Rattle.storing.specs.Room.{roomForTwo}
 use borrow.Author.Needs.{needs}
-use Rattle.macros.proofs.escapes.room_for_two.Statement.{statement}
-use Rattle.macros.proofs.escapes.room_for_two.Tie as tie
+use Rattle.storing.proofs.escapes.room_for_two.Statement.{statement}
+use Rattle.storing.proofs.escapes.room_for_two.Tie as tie
 
 free-cell-requires : tie.Need-free-cell-requires
 free-cell-requires c κs = search needs

@@ -1,19 +1,19 @@
 // The open definition: a byte is stored at the end of its chain.
-use crate::cells::MOST_BYTES;
-use crate::cells::count_of;
-use crate::cells::good_count;
-use crate::cells::next_of;
-use crate::cells::set_body_byte;
-use crate::cells::set_count;
-use crate::cells::set_next;
-use crate::names::set_first;
+use macros::cells::MOST_BYTES;
+use macros::cells::count_of;
+use macros::cells::good_count;
+use macros::cells::next_of;
+use macros::cells::set_body_byte;
+use macros::cells::set_count;
+use macros::cells::set_next;
+use macros::names::set_first;
 use rules::Definition;
 use rules::Refusal;
 ghost use lib.Dec.{eqb};
 ghost use mathlib.Core.Path.{_≡_};
 ghost use Rattle.rules.specs.Store.{nextOf, takeCell, linkCell, storeInNew, storeByte};
 ghost use Rattle.macros.specs.Lent.{Sized, IsName};
-ghost use Rattle.macros.specs.Storing.{fillingOf, storingOf, KeptIfRefused};
+ghost use Rattle.storing.specs.Storing.{fillingOf, storingOf, KeptIfRefused};
 
 pub enum StoreAnswer {
     Done(Definition),

@@ -11,9 +11,9 @@ use Rattle.rules.specs.declared.Definition.{Definition}
 use Rattle.rules.specs.declared.Refusal.the-variants.{StoreFull, OutOfRange}
 use Rattle.rules.specs.Store.{nextOf, setNext, countOf, setCount, goodCount, setBodyByte, setFirst, Filling, NotStored, Stored, takeCell, linkCell, storeInNew, storeInLast, storeByte}
 use Rattle.rules.proofs.CodingRanges.{StoringKeeps, store-keeps}
-use Rattle.macros.specs.Storing.{fillingOf, storingOf}
-use Rattle.macros.specs.declared.definitions.StoreAnswer.{StoreAnswer}
-use Rattle.macros.specs.declared.definitions.StoreAnswer.the-variants.{Done}
+use Rattle.storing.specs.Storing.{fillingOf, storingOf}
+use Rattle.storing.specs.declared.definitions.StoreAnswer.{StoreAnswer}
+use Rattle.storing.specs.declared.definitions.StoreAnswer.the-variants.{Done}
 
 -- The count of the last cell, and the front of the free chain
 abbrev pub held : Filling → ℕ

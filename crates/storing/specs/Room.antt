@@ -5,8 +5,8 @@ use lib.Dec.{ltb, eqb}
 use Rattle.rules.specs.declared.Refusal.the-variants.{StoreFull, OutOfRange}
 use Rattle.rules.specs.Choice.{pick}
 use Rattle.rules.specs.Store.{nextOf, countOf, mostBytes, goodCount}
-use Rattle.macros.specs.declared.escapes.Room.{Room}
-use Rattle.macros.specs.declared.escapes.Room.the-variants.{Enough, Refused}
+use Rattle.storing.specs.declared.escapes.Room.{Room}
+use Rattle.storing.specs.declared.escapes.Room.the-variants.{Enough, Refused}
 
 unfoldable pub freeCell : List ℕ → Room
 freeCell st = pick (eqb (nextOf st 0) 0) (Refused StoreFull) Enough

@@ -1,11 +1,11 @@
 use mathlib.Core.Path.{refl, sym, _∙_}
 use native.Mathlib.Omega.{arith}
 use Rattle.rules.specs.Store.{nextOf}
-use Rattle.macros.proofs.EscapeLaws.{two-refused, first-stored, both-stored}
-use Rattle.macros.proofs.StoringLaws.{same-name}
+use Rattle.storing.proofs.EscapeLaws.{two-refused, first-stored, both-stored}
+use Rattle.storing.proofs.StoringLaws.{same-name}
 use borrow.Author.Needs.{needs}
-use Rattle.macros.proofs.escapes.store_escape_and.Statement.{statement}
-use Rattle.macros.proofs.escapes.store_escape_and.Tie as tie
+use Rattle.storing.proofs.escapes.store_escape_and.Statement.{statement}
+use Rattle.storing.proofs.escapes.store_escape_and.Tie as tie
 
 room-for-two-requires : tie.Need-room-for-two-requires
 room-for-two-requires c κs = search needs

@@ -1,10 +1,10 @@
 use mathlib.Core.Path.{refl}
 use borrow.Author.Tests.{eq-eqb, ne-eqb, lt-ltb, le-ltb, not-true, not-false}
 use Rattle.rules.specs.Store.{storeByte}
-use Rattle.macros.proofs.StoringLaws.{in-stored}
+use Rattle.storing.proofs.StoringLaws.{in-stored}
 use borrow.Author.Needs.{needs}
-use Rattle.macros.proofs.definitions.store_byte.Statement.{statement}
-use Rattle.macros.proofs.definitions.store_byte.Tie as tie
+use Rattle.storing.proofs.definitions.store_byte.Statement.{statement}
+use Rattle.storing.proofs.definitions.store_byte.Tie as tie
 
 store-in-new-requires : tie.Need-store-in-new-requires
 store-in-new-requires c κs = search needs

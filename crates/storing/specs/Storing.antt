@@ -4,8 +4,8 @@ use mathlib.Core.List.{List}
 use mathlib.Core.Path.{_≡_}
 use Rattle.rules.specs.declared.Definition.{Definition}
 use Rattle.rules.specs.Store.{Filling, Storing, NotStored, Stored}
-use Rattle.macros.specs.declared.definitions.StoreAnswer.{StoreAnswer}
-use Rattle.macros.specs.declared.definitions.StoreAnswer.the-variants.{Done, Refused}
+use Rattle.storing.specs.declared.definitions.StoreAnswer.{StoreAnswer}
+use Rattle.storing.specs.declared.definitions.StoreAnswer.the-variants.{Done, Refused}
 
 abbrev pub fillingOf : Definition → List ℕ → List ℕ → Filling
 fillingOf d firsts st = record { firsts = firsts; definition = d; store = st }

@@ -1,7 +1,7 @@
-use Rattle.macros.proofs.StoringLaws.{link-first, link-more}
+use Rattle.storing.proofs.StoringLaws.{link-first, link-more}
 use borrow.Author.Needs.{needs}
-use Rattle.macros.proofs.definitions.link_cell.Statement.{statement}
-use Rattle.macros.proofs.definitions.link_cell.Tie as tie
+use Rattle.storing.proofs.definitions.link_cell.Statement.{statement}
+use Rattle.storing.proofs.definitions.link_cell.Tie as tie
 
 set-first-requires : tie.Need-set-first-requires
 set-first-requires c κs = search needs

@@ -1,17 +1,17 @@
 // ESC and another byte of the open definition: both are stored, or neither.
-use crate::cells::MOST_BYTES;
-use crate::cells::count_of;
-use crate::cells::good_count;
-use crate::cells::next_of;
 use crate::definitions::StoreAnswer;
 use crate::definitions::store_byte;
+use macros::cells::MOST_BYTES;
+use macros::cells::count_of;
+use macros::cells::good_count;
+use macros::cells::next_of;
 use rules::Definition;
 use rules::Refusal;
 ghost use mathlib.Core.Path.{_≡_};
 ghost use Rattle.rules.specs.Store.{storeEscapeAnd};
 ghost use Rattle.macros.specs.Lent.{Sized, IsName};
-ghost use Rattle.macros.specs.Storing.{fillingOf, storingOf, KeptIfRefused};
-ghost use Rattle.macros.specs.Room.{freeCell, roomForTwo};
+ghost use Rattle.storing.specs.Storing.{fillingOf, storingOf, KeptIfRefused};
+ghost use Rattle.storing.specs.Room.{freeCell, roomForTwo};
 
 const ESC: u8 = 27;
 

@@ -1,7 +1,7 @@
-use Rattle.macros.proofs.StoringLaws.{taken}
+use Rattle.storing.proofs.StoringLaws.{taken}
 use borrow.Author.Needs.{needs}
-use Rattle.macros.proofs.definitions.take_cell.Statement.{statement}
-use Rattle.macros.proofs.definitions.take_cell.Tie as tie
+use Rattle.storing.proofs.definitions.take_cell.Statement.{statement}
+use Rattle.storing.proofs.definitions.take_cell.Tie as tie
 
 next-of-requires : tie.Need-next-of-requires
 next-of-requires c κs = search needs

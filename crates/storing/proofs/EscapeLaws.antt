@@ -12,15 +12,15 @@ use Rattle.rules.specs.declared.Refusal.{Refusal}
 use Rattle.rules.specs.declared.Refusal.the-variants.{StoreFull, OutOfRange}
 use Rattle.rules.specs.Store.{nextOf, setNext, countOf, setCount, goodCount, setBodyByte, Filling, Storing, NotStored, Stored, onStore, takeCell, linkCell, storeInNew, storeInLast, storeByte, storeNext, storeEscapeAnd}
 use Rattle.rules.proofs.Bools.{by-test, pick-by}
 use Rattle.macros.specs.Lent.{Sized}
-use Rattle.macros.specs.Storing.{fillingOf, storingOf, KeptIfRefused}
-use Rattle.macros.specs.Room.{freeCell, roomForTwo}
-use Rattle.macros.specs.declared.definitions.StoreAnswer.{StoreAnswer}
-use Rattle.macros.specs.declared.definitions.StoreAnswer.the-variants.{Done, Refused}
-use Rattle.macros.specs.declared.escapes.Room.{Room}
-use Rattle.macros.specs.declared.escapes.Room.the-variants.{Enough, Refused as Short}
+use Rattle.storing.specs.Storing.{fillingOf, storingOf, KeptIfRefused}
+use Rattle.storing.specs.Room.{freeCell, roomForTwo}
+use Rattle.storing.specs.declared.definitions.StoreAnswer.{StoreAnswer}
+use Rattle.storing.specs.declared.definitions.StoreAnswer.the-variants.{Done, Refused}
+use Rattle.storing.specs.declared.escapes.Room.{Room}
+use Rattle.storing.specs.declared.escapes.Room.the-variants.{Enough, Refused as Short}
 use Rattle.macros.proofs.CellLaws.{good-most, good-between, length-setNext, length-setBodyByte, count-setCount, count-setNext, count-setBodyByte, next-setCount, next-setBodyByte}
-use Rattle.macros.proofs.StoringLaws.{held, front, byte-first, byte-bad, byte-in, byte-full, new-none}
+use Rattle.storing.proofs.StoringLaws.{held, front, byte-first, byte-bad, byte-in, byte-full, new-none}
 
 -- A storing that is not refused
 abbrev Accepted : Storing → Type 0

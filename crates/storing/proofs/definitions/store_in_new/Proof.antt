@@ -1,8 +1,8 @@
 use mathlib.Core.Path.{refl, sym, _∙_}
-use Rattle.macros.proofs.StoringLaws.{new-none, new-stored}
+use Rattle.storing.proofs.StoringLaws.{new-none, new-stored}
 use borrow.Author.Needs.{needs}
-use Rattle.macros.proofs.definitions.store_in_new.Statement.{statement}
-use Rattle.macros.proofs.definitions.store_in_new.Tie as tie
+use Rattle.storing.proofs.definitions.store_in_new.Statement.{statement}
+use Rattle.storing.proofs.definitions.store_in_new.Tie as tie
 
 next-of-requires : tie.Need-next-of-requires
 next-of-requires c κs = search needs
