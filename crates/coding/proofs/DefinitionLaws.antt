@@ -19,11 +19,11 @@ use Rattle.rules.specs.Choice.{pick}
 use Rattle.rules.specs.Store.{firstOf, setFirst, freeBody, Storing}
 use Rattle.rules.specs.Coding.{Refuse, React, named, openBody, keep, classOf, reactTo}
 use Rattle.macros.specs.Freeing.{freeingOf, KeptIfRefused as FreeKept}
-use Rattle.macros.specs.Storing.{storingOf, KeptIfRefused as StoreKept}
+use Rattle.storing.specs.Storing.{storingOf, KeptIfRefused as StoreKept}
 use Rattle.macros.specs.declared.chains.FreeAnswer.{FreeAnswer}
 use Rattle.macros.specs.declared.chains.FreeAnswer.the-variants.{Done as Freed, Refused as NotFreed}
-use Rattle.macros.specs.declared.definitions.StoreAnswer.{StoreAnswer}
-use Rattle.macros.specs.declared.definitions.StoreAnswer.the-variants.{Done, Refused}
+use Rattle.storing.specs.declared.definitions.StoreAnswer.{StoreAnswer}
+use Rattle.storing.specs.declared.definitions.StoreAnswer.the-variants.{Done, Refused}
 use Rattle.coding.specs.View.{codingOf, reactionOf}
 use Rattle.coding.specs.declared.reactions.Reacted.{Reacted}
 use Rattle.coding.proofs.Answers.{KeptIn, Answers, changed}

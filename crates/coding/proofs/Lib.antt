@@ -2,4 +2,3 @@ pub mod Answers
 pub mod DefinitionLaws
 pub mod ReactLaws
 pub mod EffectLaws
-pub mod IdleLaws

@@ -2,7 +2,6 @@
 pub mod characters;
 pub mod definitions;
 pub mod escapes;
-pub mod idle;
 pub mod ranges;
 pub mod reactions;
 

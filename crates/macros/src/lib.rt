@@ -2,8 +2,5 @@
 pub mod cells;
 pub mod chains;
 pub mod cursors;
-pub mod definitions;
-pub mod escapes;
-pub mod filling;
 pub mod names;
 pub mod opening;

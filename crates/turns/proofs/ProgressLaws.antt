@@ -35,8 +35,8 @@ use Rattle.figures.specs.Carried.{Carried, drawingOf}
 use Rattle.runs.specs.Run.{Run, standing, none as run-none, more as run-more}
 use Rattle.runs.specs.Strokes.{penAfter}
 use Rattle.coding.specs.View.{codingOf}
-use Rattle.coding.specs.Idle.{Idle, coded}
-use Rattle.coding.specs.declared.idle.Idled.{Idled}
+use Rattle.idle.specs.Idle.{Idle, coded}
+use Rattle.idle.specs.declared.Idled.{Idled}
 use Rattle.turns.specs.declared.step.Progress.{Progress}
 use Rattle.turns.specs.View.{atDepth}
 use Rattle.turns.specs.Walk.{Place, placed, placeAt, Walk, none, removed, step, placeAfter, sourceOf, placesAfter, Passes, Lies, ranOn, Most, codedOn}

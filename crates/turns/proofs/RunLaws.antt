@@ -35,7 +35,7 @@ use Rattle.bodies.specs.Stack.{bodiesOf}
 use Rattle.bodies.specs.Calls.{NamesEmpty, CallsEmpty}
 use Rattle.figures.specs.Carried.{Carried, carry}
 use Rattle.runs.specs.Run.{ActsAs, Run, none as run-none, more as run-more}
-use Rattle.coding.specs.Idle.{Coded, Idle, none as idle-none, more as idle-more}
+use Rattle.idle.specs.Idle.{Coded, Idle, none as idle-none, more as idle-more}
 use Rattle.turns.specs.Turn.{Steps, onMove, onSought, turn}
 use Rattle.turns.specs.Walk.{Place, placed, Walk, none, step}
 

@@ -6,13 +6,7 @@ use bodies::body_at;
 use bodies::calls::empty_calls;
 use bodies::depth_left;
 use bodies::set_body;
-use coding::idle::run_idle;
-use runs::commands::is_stroke;
-use runs::commands::run_commands;
-use runs::Ran;
-use runs::strokes;
-use runs::strokes::Lined;
-use runs::text::run_text;
+use idle::run_idle;
 use macros::cursors::Stretch;
 use macros::cursors::stretch_of;
 use rules::Command;
@@ -23,6 +17,12 @@ use rules::Repertoire;
 use rules::Set;
 use rules::Sets;
 use rules::Waiting;
+use runs::Ran;
+use runs::commands::is_stroke;
+use runs::commands::run_commands;
+use runs::strokes;
+use runs::strokes::Lined;
+use runs::text::run_text;
 use tables::controls::is_recorded;
 use tables::sets::set_of;
 ghost use mathlib.Core.Path.{_≡_};
@@ -486,7 +486,5 @@ pub fn run_coded(
 {
     let depth = depth_left(store, cells, places, progress.depth);
     let progress = at_depth(progress, depth);
-    code_piece(
-        progress, budget, free, cells, places, firsts, store, piece,
-    )
+    code_piece(progress, budget, free, cells, places, firsts, store, piece)
 }

@@ -99,8 +99,8 @@ returns-3 c =
     let good· = c .before .before .before .before .before .before .before .before .before .before .before .before .before .before .before .before .before .good in
     let waits = awaits-nothing· .ensures (not-false (awaits-nothing· .result) (if1· .left)) in (
       λ firsts map. walk-run (args· .budget) (args· .progress) (now (args· .cells)) (now (args· .places)) firsts (args· .pen) (args· .command) (args· .look) map (now (args· .store)) (now (args· .piece)) (now (args· .out))
-        (set-read· .result) _ (draw-set· .result .count) (draw-set· .result .at) (draw-set· .result .pen) (draw-set· .result .command) (draw-set· .last .1 .1 .1 .1 .1 .1 .1 .0) (bytes-next· .result .from) (bytes-next· .result .to)
-        waits (set-read· .ensures) (source-of· .ensures) (draw-set· .ensures .0 map) (draw-set· .ensures .1) (bytes-next· .ensures .1) (bytes-next· .ensures .0) _ (read-past· .ensures),
+          (set-read· .result) _ (draw-set· .result .count) (draw-set· .result .at) (draw-set· .result .pen) (draw-set· .result .command) (draw-set· .last .1 .1 .1 .1 .1 .1 .1 .0) (bytes-next· .result .from) (bytes-next· .result .to)
+          waits (set-read· .ensures) (source-of· .ensures) (draw-set· .ensures .0 map) (draw-set· .ensures .1) (bytes-next· .ensures .1) (bytes-next· .ensures .0) _ (read-past· .ensures),
       (
         run-most (draw-set· .result .count) (args· .budget) (args· .progress) (bytes-next· .ensures .0) (draw-set· .ensures .1) (bytes-next· .ensures .1) (pre· .0 .on) (omega (arith, fits· .budget)) (omega (arith, good· .0 .1 .1 .1 .1 .0)),
         run-still (draw-set· .ensures .0 []),

@@ -93,8 +93,8 @@ returns-3 c =
     let good· = c .before .before .before .before .before .before .before .before .before .before .before .before .before .before .before .before .good in
     let drawn = strokes-open· .ensures (not-false (strokes-open· .result) (if1· .left)) in (
       λ firsts map. walk-run (args· .budget) (args· .progress) (now (args· .cells)) (now (args· .places)) firsts (args· .pen) (args· .command) (args· .look) map (now (args· .store)) (now (args· .piece)) (now (args· .out))
-        Pdi _ (run-strokes· .result .count) (run-strokes· .result .at) (penAfter (run-strokes· .result .count) (args· .pen) (run-strokes· .result .point)) (args· .command) (run-strokes· .last .1 .1 .1 .1 .1 .1 .0) (bytes-next· .result .from) (bytes-next· .result .to)
-        (drawn .0) (sym (drawn .1)) (source-of· .ensures) (run-strokes· .ensures .0 map) (run-strokes· .ensures .1) (bytes-next· .ensures .1) (bytes-next· .ensures .0) _ (read-past· .ensures),
+          Pdi _ (run-strokes· .result .count) (run-strokes· .result .at) (penAfter (run-strokes· .result .count) (args· .pen) (run-strokes· .result .point)) (args· .command) (run-strokes· .last .1 .1 .1 .1 .1 .1 .0) (bytes-next· .result .from) (bytes-next· .result .to)
+          (drawn .0) (sym (drawn .1)) (source-of· .ensures) (run-strokes· .ensures .0 map) (run-strokes· .ensures .1) (bytes-next· .ensures .1) (bytes-next· .ensures .0) _ (read-past· .ensures),
       (
         run-most (run-strokes· .result .count) (args· .budget) (args· .progress) (bytes-next· .ensures .0) (run-strokes· .ensures .1) (bytes-next· .ensures .1) (pre· .on) (omega (arith, fits· .budget)) (omega (arith, good· .0 .1 .1 .1 .1 .0)),
         λ e. run-still (run-strokes· .ensures .0 []) e .0,

@@ -1,0 +1,119 @@
+-- Runs of idle bytes, from what the calls hand back.
+-- Assumes nothing.
+use mathlib.Core.Path.{_≡_, refl, sym, ap, _∙_}
+use mathlib.Core.Bool.{true, false}
+use mathlib.Core.List.{List, [], _∷_}
+use mathlib.Core.Logic.{_⊎_, inl, inr}
+use Prim.Native.Nat.{ℕ, zero, suc, _+_}
+use native.Mathlib.Numerals.{add-one}
+use native.Mathlib.Omega.{arith}
+use borrow.Author.Tests.{le-ltb, ne-eqb}
+use lib.ListN.{getD}
+use types.Run.{OneOf, miss}
+use denote.Enum.Declared.{tagOf}
+use Rattle.rules.proofs.Action.{the-type as the-action}
+use Rattle.rules.proofs.Bools.{true-false, false-true}
+use Rattle.rules.proofs.CodingRanges.{ReactionFits, react-fits}
+use Rattle.rules.specs.declared.Action.{Action}
+use Rattle.rules.specs.declared.Action.the-variants.{Idle as Idle·action, Close, Control, Character, Opcode, Data}
+use Rattle.rules.specs.declared.Coding.{Coding}
+use Rattle.rules.specs.declared.Definition.{Definition}
+use Rattle.rules.specs.declared.Sets.{Sets}
+use Rattle.rules.specs.declared.Waiting.{Waiting}
+use Rattle.rules.specs.declared.Waiting.the-variants.{Body}
+use Rattle.rules.specs.Coding.{React, keep, inBody, reactTo, react}
+use Rattle.rules.specs.Ranges.{waitingFits}
+use Rattle.rules.specs.Store.{Filling, Stored, storeByte}
+use Rattle.macros.specs.Runs.{Plain, Stores, none as stored-none, more as stored-more}
+use Rattle.storing.specs.Storing.{fillingOf}
+use Rattle.idle.specs.Idle.{Coded, coded, Idle, none, more, idleAction, idleEffect}
+use Rattle.coding.specs.View.{codingOf, effectOn, reactionOf, KeptBy, Kept}
+use Rattle.coding.specs.declared.reactions.Effect.{Effect}
+use Rattle.coding.specs.declared.reactions.Effect.the-variants.{Refuses, Calls, Acts}
+use Rattle.coding.specs.declared.reactions.Reacted.{Reacted}
+use Rattle.coding.proofs.EffectLaws.{act-kept}
+
+-- A run goes on by a byte, and by a run
+module _ (bytes : List ℕ) (from : ℕ) {x : Coded} (n : ℕ) where
+  pub idle-on : (c c₁ : Coding) (st st₁ : List ℕ) → Idle bytes from x n (coded c st)
+      → react c st (getD bytes (from + n) 0) ≡ React c₁ st₁ Idle·action → Idle bytes from x (n + 1) (coded c₁ st₁)
+  idle-on c c₁ st st₁ d e = rw add-one (more d e)
+
+  pub idle-join : (m : ℕ) (y z : Coded) → Idle bytes from x n y → Idle bytes (from + n) y m z → Idle bytes from x (n + m) z
+  idle-join zero y z d none =
+      let k : n + 0 ≡ n = omega arith in
+      rw k d
+  idle-join (suc m) y z d (more {y = v} e q) =
+      let k : n + suc m ≡ suc (n + m) = omega arith in
+      let j : from + (n + m) ≡ from + n + m = omega arith in
+      rw k (more (idle-join m y v d e) (ap (λ (i : ℕ). react (v .coding) (v .store) (getD bytes i 0)) j ∙ q))
+
+-- A run of bytes that a definition stores
+module _ (s : Sets) where
+  abbrev within : Filling → Coded
+  within f = coded (codingOf s (Body (f .definition)) (f .firsts)) (f .store)
+
+  body-idle : (f g : Filling) (b : ℕ) → Plain b → storeByte f b ≡ Stored g
+      → react (within f .coding) (within f .store) b ≡ React (within g .coding) (within g .store) Idle·action
+  unfolding react reactTo inBody keep
+  body-idle f g b p e = rw (le-ltb 127 b (p .0), ne-eqb b 27 (p .1), e)
+
+  stores-idle : (bytes : List ℕ) (from n : ℕ) (f g : Filling) → Stores bytes from f n g → Idle bytes from (within f) n (within g)
+  stores-idle bytes from zero f g stored-none = none
+  stores-idle bytes from (suc n) f g (stored-more {g = h} d p e) = more (stores-idle bytes from n f h d) (body-idle h g (getD bytes (from + n) 0) p e)
+
+pub body-runs : (bytes : List ℕ) (from n : ℕ) (w : Waiting) (d : Definition) (st st₁ : List ℕ) → w ≡ Body d
+    → ((name : ℕ) (f : List ℕ) → Stores bytes from (fillingOf (record { name = name; last = d .last }) f st) n (fillingOf (record { name = name; last = d .last }) f st₁))
+    → (s : Sets) (f : List ℕ) → Idle bytes from (coded (codingOf s w f) st) n (coded (codingOf s w f) st₁)
+body-runs bytes from n w d st st₁ e r s f = rw e (stores-idle s bytes from n (fillingOf d f st) (fillingOf d f st₁) (r (d .name) f))
+
+-- Which actions and effects are idle
+abbrev not-idle : List ℕ
+not-idle = 1 ∷ 2 ∷ 3 ∷ 4 ∷ 5 ∷ []
+
+pub others-act : (a : Action) → OneOf not-idle (tagOf the-action a) → false ≡ idleAction a
+unfolding idleAction
+others-act Idle·action h = absurd (miss not-idle 0 tt h)
+others-act Close h = refl
+others-act (Control b) h = refl
+others-act (Character x b) h = refl
+others-act (Opcode b) h = refl
+others-act (Data b) h = refl
+
+idle-action : (a : Action) → idleAction a ≡ true → a ≡ Idle·action
+unfolding idleAction
+idle-action Idle·action h = refl
+idle-action Close h = false-true h
+idle-action (Control b) h = false-true h
+idle-action (Character x b) h = false-true h
+idle-action (Opcode b) h = false-true h
+idle-action (Data b) h = false-true h
+
+idle-effect : (x : Effect) (c : Coding) (st : List ℕ) → idleEffect x ≡ true → effectOn x c st ≡ React c st Idle·action
+unfolding idleEffect
+idle-effect (Refuses r) c st h = false-true h
+idle-effect (Calls n) c st h = false-true h
+idle-effect (Acts a) c st h = ap (React c st) (idle-action a h)
+
+-- A byte that is idle, and one that is not
+module _ (s : Sets) (w : Waiting) (f st : List ℕ) (b : ℕ) (r : Reacted) (f₁ st₁ : List ℕ) (e : reactionOf r f₁ st₁ ≡ react (codingOf s w f) st b) where
+  pub idle-reacts : idleEffect (r .effect) ≡ true → react (codingOf s w f) st b ≡ React (codingOf (r .sets) (r .waiting) f₁) st₁ Idle·action
+  idle-reacts h = sym e ∙ idle-effect (r .effect) (codingOf (r .sets) (r .waiting) f₁) st₁ h
+
+  pub idle-fits : idleEffect (r .effect) ≡ true → waitingFits w ≡ true → waitingFits (r .waiting) ≡ true
+  idle-fits h k =
+      let fits : ReactionFits st (React (codingOf (r .sets) (r .waiting) f₁) st₁ Idle·action) = rw (idle-reacts h) at (react-fits (codingOf s w f) st b k) in
+      fits .2
+
+  pub busy-keeps : idleEffect (r .effect) ≡ false → (Kept r f f₁) × (Kept r st st₁) → (f₁ ≡ f) × (st₁ ≡ st)
+  unfolding idleEffect idleAction
+  busy-keeps h k = by (r .effect) refl h k
+    where
+      acts : (a : Action) → idleAction a ≡ false → ((f₁ ≡ f) × (st₁ ≡ st)) ⊎ (a ≡ Idle·action) → (f₁ ≡ f) × (st₁ ≡ st)
+      acts a n (inl p) = p
+      acts a n (inr q) = true-false (rw q at n)
+
+      by : (x : Effect) → r .effect ≡ x → idleEffect x ≡ false → (KeptBy x f f₁) × (KeptBy x st st₁) → (f₁ ≡ f) × (st₁ ≡ st)
+      by (Refuses z) q n p = p
+      by (Calls m) q n p = p
+      by (Acts a) q n p = acts a n (act-kept (codingOf s w f) st b r f₁ st₁ e a q)
