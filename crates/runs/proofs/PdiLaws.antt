@@ -10,26 +10,32 @@ use lib.Dec.{leb}
 use lib.ListN.{length, getD}
 use borrow.Author.Tests.{lt-ltb, le-ltb, leb-true}
 use Rattle.rules.specs.declared.Action.{Action}
-use Rattle.rules.specs.declared.Action.the-variants.{Control, Opcode}
+use Rattle.rules.specs.declared.Action.the-variants.{Control, Opcode, Data}
 use Rattle.rules.specs.declared.Command.{Command}
 use Rattle.rules.specs.declared.Control.the-variants.{Ignored, Recorded}
 use Rattle.rules.specs.declared.Domain.{Domain}
+use Rattle.rules.specs.declared.Drawing.{Drawing}
 use Rattle.rules.specs.declared.Look.{Look}
 use Rattle.rules.specs.declared.Operand.{Operand}
 use Rattle.rules.specs.declared.Pen.{Pen}
 use Rattle.rules.specs.declared.Point.{Point}
+use Rattle.rules.specs.declared.Role.the-variants.{Dropped}
+use Rattle.rules.specs.declared.Row.{Row}
 use Rattle.rules.specs.declared.Set.{Set}
 use Rattle.rules.specs.declared.Set.the-variants.{Pdi}
 use Rattle.rules.specs.Coding.{controls}
-use Rattle.rules.specs.Drawing.{noOperand, Outcome, Refuse, Draw, act}
+use Rattle.rules.specs.Drawing.{other, rows, rowOf, roleOf, lengthOf, noOperand, Outcome, Refuse, Draw, act}
 use Rattle.rules.specs.Ranges.{domainFits}
+use Rattle.rules.proofs.Tables.{at}
 use Rattle.rules.proofs.Bools.{false-true, and-left, and-right, pick-yes, pick-no}
 use Rattle.figures.specs.Carried.{Carried, carry, drawingOf}
+use Rattle.figures.proofs.Carrying.{carry-none}
+use Rattle.drawing.proofs.OperandLaws.{data-dropped}
 use Rattle.runs.specs.declared.Ran.{Ran}
 use Rattle.runs.specs.Run.{ActsAs, Run, none, more, standing}
 use Rattle.runs.specs.Strokes.{penAfter}
 use Rattle.runs.specs.Tracing.{penAt, asked}
-use Rattle.runs.proofs.ActsLaws.{control-acts, opcode-acts}
+use Rattle.runs.proofs.ActsLaws.{data-acts, control-acts, opcode-acts}
 
 -- A step more, its answer given
 pub run-step : {s : Set} {bytes : List ℕ} {from n : ℕ} {x y : Carried} (a : Action) (z : Carried) → Run s bytes from x n y
@@ -96,6 +102,28 @@ reaches-opened bytes from x p₀ i p c l m at out a q c′ at′ out′ h z e ro
     subst (λ (y : Pen). Run Pdi bytes from x (i + 1 - from) (standing y c′ l m at′ out′)) (after-some p₀ (i + 1 - from) q (omega arith))
     (subst (λ (j : ℕ). Run Pdi bytes from x j (standing (penAt q noOperand) c′ l m at′ out′)) next stepped)
 
+-- Data is dropped, and nothing changes
+data-nothing : (b : ℕ) (d : Drawing) (at : ℕ) (out : List ℕ) (r : Row) → r ≡ rowOf (d .command .opcode) → roleOf (r .pattern) (d .command .due) ≡ Dropped
+    → record { refused = false; drawing = d; at = at; output = out } ≡ carry (act (Data b) d) d at out
+unfolding act lengthOf
+data-nothing b d at out r own role =
+    sym (carry-none d d at out)
+    ∙ data-dropped (rowOf (d .command .opcode)) b d at out Dropped 0 (sym (subst (λ (x : Row). roleOf (x .pattern) (d .command .due) ≡ Dropped) own role)) refl refl
+
+pub reaches-dropped : (bytes : List ℕ) (from : ℕ) (x : Carried) (p₀ : Pen) (i : ℕ) (p : Point) (c : Command) (l : Look) (m : List ℕ) (at : ℕ) (out : List ℕ) (r : Row)
+    → 1 ≤ i - from → at + 120 ≤ length out → 64 ≤ getD bytes i 0 → getD bytes i 0 ≤ 127 → r ≡ rowOf (c .opcode) → roleOf (r .pattern) (c .due) ≡ Dropped
+    → Reaches bytes from x p₀ i p c l m at out
+    → Reaches bytes from x p₀ (i + 1) p c l m at out
+reaches-dropped bytes from x p₀ i p c l m at out r some room least most own role run =
+    let b = getD bytes i 0 in
+    let d = drawingOf (penAt p noOperand) c l m in
+    let here : i ≡ from + (i - from) = omega arith in
+    let next : (i - from) + 1 ≡ i + 1 - from = omega arith in
+    let before = subst (λ (y : Pen). Run Pdi bytes from x (i - from) (standing y c l m at out)) (sym (after-some p₀ (i - from) p some)) run in
+    let stepped = run-step (Data b) (standing (penAt p noOperand) c l m at out) before (subst (λ (j : ℕ). ActsAs Pdi (getD bytes j 0) (Data b)) here (data-acts b least most)) room refl (data-nothing b d at out r own role) in
+    subst (λ (y : Pen). Run Pdi bytes from x (i + 1 - from) (standing y c l m at out)) (after-some p₀ (i + 1 - from) p (omega arith))
+    (subst (λ (j : ℕ). Run Pdi bytes from x j (standing (penAt p noOperand) c l m at out)) next stepped)
+
 -- What the answer tells
 pub reaches-end : (bytes : List ℕ) (from to : ℕ) (p₀ : Pen) (c₀ : Command) (at₀ : ℕ) (out₀ : List ℕ) (i : ℕ) (p : Point) (c : Command) (l : Look) (at : ℕ) (out : List ℕ) (r : Ran)
     → from ≤ i → i ≤ to → r ≡ record { count = i - from; at = at; pen = penAfter (i - from) p₀ p; command = c }
@@ -105,6 +133,18 @@ reaches-end bytes from to p₀ c₀ at₀ out₀ i p c l at out r h k e runs = (
   (λ m. subst (λ (x : Ran). Run Pdi bytes from (standing p₀ c₀ l m at₀ out₀) (x .count) (standing (x .pen) (x .command) l m (x .at) out)) (sym e) (runs m)),
   subst (λ (x : Ran). from + x .count ≤ to) (sym e) (omega arith),
 )
+
+-- The row of a byte in the table
+pub row-next : {table : List Row} → table ≡ rows → (k b : ℕ) (d : Row) → k ≡ b - 32 → b < 64 → getD table k d ≡ rowOf b
+unfolding rows rowOf
+row-next test k b d e h =
+    let l : k < 32 = omega arith in
+    at rows test k d other l ∙ ap (λ (j : ℕ). getD rows j other) e
+
+-- With no command open, the row after a control is that of opcode 0
+pub row-control : (b : ℕ) → b < 32 → rowOf b ≡ rowOf 0
+unfolding rowOf
+row-control b h = let e : b - 32 ≡ 0 - 32 = omega arith in rw e
 
 -- A recorded control asks for its record, an opcode to be opened
 pub control-asked : (b : ℕ) → b < 32 → getD controls b Ignored ≡ Recorded → ActsAs Pdi b (asked b)

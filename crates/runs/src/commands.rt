@@ -18,11 +18,14 @@ use rules::Point;
 use rules::Role;
 use tables::controls::is_recorded;
 use tables::opcodes::row_of;
+use tables::opcodes::row_place;
+use tables::opcodes::rows;
 ghost use mathlib.Core.Path.{_≡_};
 ghost use mathlib.Core.Bool.{true, false};
 ghost use mathlib.Core.List.{List};
 ghost use Prim.Native.Nat.{ℕ, _+_, _≤_};
 ghost use lib.ListN.{length};
+ghost use Rattle.rules.specs.declared.Role.{Role};
 ghost use Rattle.rules.specs.declared.Set.{Set};
 ghost use Rattle.rules.specs.Ranges.{domainFits, commandFits};
 ghost use Rattle.runs.specs.Run.{ActsAs, Run, standing};
@@ -69,6 +72,22 @@ fn opens(role: Role, byte: u8) -> bool
     byte < 64
 }
 
+// Whether data is dropped after so many bytes; a step before it has left no operand begun.
+fn drops(role: Role, byte: u8, count: usize) -> bool
+    ensures { λ r. ⌜ (r ≡ true → (role ≡ Role.Dropped) × (byte ≤ 127) × (1 ≤ count)) ⌝ }
+{
+    if count == 0 {
+        return false;
+    }
+    if 127 < byte {
+        return false;
+    }
+    if let Role::Dropped = role {
+        return true;
+    }
+    false
+}
+
 // The pen after so many bytes, the last point given.
 fn pen_after(count: usize, pen: Pen, point: Point) -> Pen
     ensures { λ r. ⌜ r ≡ penAfter count pen point ⌝ }
@@ -110,6 +129,7 @@ pub fn run_commands(
     let domain = look.domain;
     let pel = domain.pel;
     let n = domain.multi as usize;
+    let rows = rows();
     let mut row = row_of(command.opcode);
     let mut place = from;
     let mut at = at;
@@ -125,11 +145,12 @@ pub fn run_commands(
             if !opens(role, byte) {
                 return after(place - from, at, pen, point, command);
             }
-            let next = open_next(byte, row, point, command, ink, pel, out, at);
-            at = next.at;
-            point = next.point;
-            command = next.command;
-            row = next.row;
+            let next = rows[row_place(byte)];
+            let opened = open_next(byte, next, row, point, command, ink, pel, out, at);
+            at = opened.at;
+            point = opened.point;
+            command = opened.command;
+            row = opened.row;
             place += 1;
             if leaves_strokes(byte, bytes, place, to) {
                 return after(place - from, at, pen, point, command);
@@ -139,7 +160,11 @@ pub fn run_commands(
         let whole = point_due(role, command.vertices, n, domain.three, bytes, place, to);
         match whole {
             Whole::Cut => {
-                return after(place - from, at, pen, point, command);
+                if !drops(role, byte, place - from) {
+                    return after(place - from, at, pen, point, command);
+                }
+                place += 1;
+                continue;
             }
             Whole::Whole(v) => {
                 let t = trace(role, row, v, point, command, ink, pel, out, at);

@@ -13,7 +13,6 @@ use rules::Command;
 use rules::Point;
 use rules::Role;
 use rules::Row;
-use tables::opcodes::row_of;
 ghost use mathlib.Core.Path.{_≡_};
 ghost use mathlib.Core.Bool.{false};
 ghost use mathlib.Core.List.{List};
@@ -112,9 +111,10 @@ fn put_mark(ink: Head, kind: u8, code: u8, p: Point, pel: Point, out: &mut [u8],
     put_words(out, at, head, p, ORIGIN, ORIGIN, pel);
 }
 
-// A control or an opcode closes the command that the row is of; an opcode opens another.
+// A control or an opcode closes the command that the row is of; an opcode opens another, which has the next row.
 pub fn open_next(
     byte: u8,
+    next: Row,
     row: Row,
     p: Point,
     command: Command,
@@ -123,7 +123,7 @@ pub fn open_next(
     out: &mut [u8],
     at: usize,
 ) -> Opened
-    requires { ⌜ (row ≡ rowOf (command .opcode)) × (isForeground (roleOf (row .pattern) (command .due)) ≡ false) × (at + 120 ≤ length (now out)) ⌝ }
+    requires { ⌜ (row ≡ rowOf (command .opcode)) × (isForeground (roleOf (row .pattern) (command .due)) ≡ false) × (at + 120 ≤ length (now out)) × (next ≡ rowOf byte) ⌝ }
     ensures { λ r. ⌜ ((l : Look) (o : Operand) (m : List ℕ) → Inks ink pel l → o .count ≡ 0 → standing (penAt (r .point) noOperand) (r .command) l m (r .at) (now (out .exit)) ≡ carryOut (act (asked byte)) (drawingOf (penAt p o) command l m) at (now (out .entry))) × (r .row ≡ rowOf (r .command .opcode)) × (r .at ≤ at + 80) ⌝ }
 {
     let role = role_due(row, command);
@@ -136,24 +136,23 @@ pub fn open_next(
             at: at + 40,
             point,
             command: opened(0, ORIGIN),
-            row: row_of(0),
+            row: next,
         };
     }
     let command = opened(byte, point);
-    let row = row_of(byte);
-    if row.kind == 9 {
+    if next.kind == 9 {
         put_mark(ink, 9, byte, point, pel, out, at);
         return Opened {
             at: at + 40,
             point,
             command,
-            row,
+            row: next,
         };
     }
     Opened {
         at,
         point,
         command,
-        row,
+        row: next,
     }
 }

@@ -5,6 +5,7 @@ use rules::Pattern;
 use rules::Role;
 use rules::Row;
 ghost use mathlib.Core.Path.{_≡_};
+ghost use Prim.Native.Nat.{_-_};
 ghost use Rattle.rules.specs.Drawing.{rows, rowOf, nth, roleOf, advanced, dueAfter, lengthOf};
 ghost use Rattle.rules.specs.Ranges.{operandLength};
 
@@ -175,10 +176,20 @@ const ROWS: [Row; 32] = [
 ];
 
 // Row for row, the table is that of the rules.
-fn rows() -> [Row; 32]
+pub fn rows() -> [Row; 32]
     ensures { λ r. ⌜ r ≡ rows ⌝ }
 {
     ROWS
+}
+
+// Where the row of an opcode stands in the table. A control closes a command and opens none, so that what follows is skipped as after 2/0.
+pub fn row_place(opcode: u8) -> usize
+    ensures { λ r. ⌜ r ≡ opcode - 32 ⌝ }
+{
+    if opcode < 32 {
+        return 0;
+    }
+    (opcode - 32) as usize
 }
 
 // The row of the open command. Opcode 0, none open, has the row of a skipped one.

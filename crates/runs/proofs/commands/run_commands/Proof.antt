@@ -11,20 +11,20 @@ use Rattle.rules.specs.Drawing.{rowOf}
 use Rattle.runs.specs.Run.{standing}
 use Rattle.runs.specs.Strokes.{penAfter}
 use Rattle.runs.specs.Tracing.{Inks}
-use Rattle.runs.proofs.PdiLaws.{after-own, after-moved, Reaches, reaches-none, reaches-opened, reaches-end, multi-range}
+use Rattle.runs.proofs.PdiLaws.{after-own, after-moved, Reaches, reaches-none, reaches-opened, reaches-dropped, reaches-end, row-next, multi-range}
 use Rattle.runs.proofs.PointLaws.{reaches-point}
 use Rattle.runs.proofs.commands.run_commands.Statement.{statement}
 use Rattle.runs.proofs.commands.run_commands.Tie as tie
 
 abbrev Inv-loop : tie.InvT-loop
-Inv-loop pen bytes from to out₀ at ink domain pel n row₀ place₀ at₀ point₀ command₀ out row place at′ point command =
+Inv-loop pen bytes from to out₀ at ink domain pel n table row₀ place₀ at₀ point₀ command₀ out row place at′ point command =
     (row ≡ rowOf (command .opcode)) × (from ≤ place) × (place ≤ to) × (length out ≡ length out₀) × (at′ ≤ length out)
     × (length (pen .operand .bytes) ≡ 8) × (penAfter (place - from) pen point .point ≡ point)
     × ((l : Look) (m : List ℕ) → Inks ink pel l → n ≡ l .domain .multi → domain .three ≡ l .domain .three
     → Reaches bytes from (standing pen command₀ l m at₀ out₀) pen place point command l m at′ out)
 
 abbrev μ-loop : tie.MeasureT-loop
-μ-loop pen bytes from to out₀ at ink domain pel n row₀ place₀ at₀ point₀ command₀ out row place at′ point command = to - place
+μ-loop pen bytes from to out₀ at ink domain pel n table row₀ place₀ at₀ point₀ command₀ out row place at′ point command = to - place
 
 head-of-requires : tie.Need-head-of-requires Inv-loop μ-loop
 head-of-requires c κs = search needs
@@ -32,15 +32,18 @@ head-of-requires c κs = search needs
 cast-n : tie.Need-cast-n Inv-loop μ-loop
 cast-n c = search needs
 
+rows-requires : tie.Need-rows-requires Inv-loop μ-loop
+rows-requires c κs = search needs
+
 row-of-requires : tie.Need-row-of-requires Inv-loop μ-loop
 row-of-requires c κs = search needs
 
 loop-holds : tie.Need-loop-holds Inv-loop μ-loop
 loop-holds c =
-    let args· = c .before .before .before .before .before .before .before .before .args in
-    let good· = c .before .before .before .before .before .before .before .before .good in
+    let args· = c .before .before .before .before .before .before .before .before .before .args in
+    let good· = c .before .before .before .before .before .before .before .before .before .good in
     let row-of· = c .before .row-of in
-    let pre· = c .before .before .before .before .before .before .before .before .pre in
+    let pre· = c .before .before .before .before .before .before .before .before .before .pre in
     -- What is told of the array in the pen lent
     let eight = length-unmapped ℕ (args· .pen .operand .bytes) 8 (good· .0 .1 .1 .1 .0 .1 .1 .0 .1 .0 .1) in
     (row-of· .ensures, omega arith, pre· .3, refl, pre· .5, eight, after-own (args· .pen) (args· .from - args· .from), λ l m k h t. reaches-none _ _ _ _ l m _ _)
@@ -65,8 +68,8 @@ same-length c =
 
 returns : tie.Need-returns Inv-loop μ-loop
 returns c =
-    let args· = c .before .before .before .before .before .before .before .before .before .before .before .before .args in
-    let head-of· = c .before .before .before .before .before .before .before .before .before .head-of in
+    let args· = c .before .before .before .before .before .before .before .before .before .before .before .before .before .args in
+    let head-of· = c .before .before .before .before .before .before .before .before .before .before .head-of in
     let loop· = c .before .before .before .loop in
     let after· = c .after in
     let k : Inks _ _ (args· .look) = record { head = head-of· .ensures; size = refl } in
@@ -78,7 +81,7 @@ role-due-requires c κs = search needs
 shared-slice-read-byte : tie.Need-shared-slice-read-byte Inv-loop μ-loop
 shared-slice-read-byte c =
     let loop-test· = c .before .before .before .loop-test in
-    let pre· = c .before .before .before .before .before .before .before .before .before .before .before .before .before .pre in
+    let pre· = c .before .before .before .before .before .before .before .before .before .before .before .before .before .before .pre in
     omega (arith, loop-test· .taken, pre· .4)
 
 opens-requires : tie.Need-opens-requires Inv-loop μ-loop
@@ -99,38 +102,53 @@ same-length-2 c =
 
 returns-2 : tie.Need-returns-2 Inv-loop μ-loop
 returns-2 c =
-    let args· = c .before .before .before .before .before .before .before .before .before .before .before .before .before .before .before .before .before .args in
-    let head-of· = c .before .before .before .before .before .before .before .before .before .before .before .before .before .before .head-of in
+    let args· = c .before .before .before .before .before .before .before .before .before .before .before .before .before .before .before .before .before .before .args in
+    let head-of· = c .before .before .before .before .before .before .before .before .before .before .before .before .before .before .before .head-of in
     let loop· = c .before .before .before .before .before .before .before .before .loop in
     let after2· = c .after2 in
     let k : Inks _ _ (args· .look) = record { head = head-of· .ensures; size = refl } in
     reaches-end _ _ _ _ _ _ _ _ _ _ (args· .look) _ _ _ (loop· .inv .1) (loop· .inv .2) (after2· .ensures) (λ m. loop· .inv .7 (args· .look) m k refl refl)
 
+row-place-requires : tie.Need-row-place-requires Inv-loop μ-loop
+row-place-requires c κs = search needs
+
+mul-next : tie.Need-mul-next Inv-loop μ-loop
+mul-next c = search needs
+
+array-copy-out-next : tie.Need-array-copy-out-next Inv-loop μ-loop
+array-copy-out-next c =
+    let row-place· = c .row-place in
+    let if2· = c .before .before .before .if2 in
+    omega (arith, row-place· .ensures, if2· .taken)
+
 open-next-requires : tie.Need-open-next-requires Inv-loop μ-loop
 open-next-requires c κs =
-    let opens· = c .before .before .opens in
-    let if3· = c .before .if3 in
-    let loop· = c .before .before .before .before .before .before .before .before .loop in
-    let role-due· = c .before .before .before .before .before .role-due in
-    let if1· = c .before .before .before .before .before .before .if1 in
+    let opens· = c .before .before .before .before .opens in
+    let if3· = c .before .before .before .if3 in
+    let loop· = c .before .before .before .before .before .before .before .before .before .before .loop in
+    let role-due· = c .before .before .before .before .before .before .before .role-due in
+    let if1· = c .before .before .before .before .before .before .before .before .if1 in
+    let rows· = c .before .before .before .before .before .before .before .before .before .before .before .before .before .rows in
+    let row-place· = c .before .before .row-place in
+    let if2· = c .before .before .before .before .before .if2 in
     let w = opens· .ensures (not-false (opens· .result) (if3· .left)) in
-    (loop· .inv .0, rw (← role-due· .ensures) (w .0), omega (arith, if1· .left, loop· .inv .4))
+    (loop· .inv .0, rw (← role-due· .ensures) (w .0), omega (arith, if1· .left, loop· .inv .4), row-next (rows· .ensures) (row-place· .result) _ _ (row-place· .ensures) (if2· .taken))
 
 add-place : tie.Need-add-place Inv-loop μ-loop
 add-place c =
-    let loop-test· = c .before .before .before .before .before .before .before .before .before .before .before .before .before .loop-test in
-    let fits· = c .before .before .before .before .before .before .before .before .before .before .before .before .before .before .before .before .before .before .before .before .before .before .before .fits in
+    let loop-test· = c .before .before .before .before .before .before .before .before .before .before .before .before .before .before .before .loop-test in
+    let fits· = c .before .before .before .before .before .before .before .before .before .before .before .before .before .before .before .before .before .before .before .before .before .before .before .before .before .before .fits in
     omega (arith, loop-test· .taken, fits· .to)
 
 leaves-strokes-requires : tie.Need-leaves-strokes-requires Inv-loop μ-loop
 leaves-strokes-requires c κs =
-    let loop-test· = c .before .before .before .before .before .before .before .before .before .before .before .before .before .loop-test in
-    let pre· = c .before .before .before .before .before .before .before .before .before .before .before .before .before .before .before .before .before .before .before .before .before .before .before .pre in
+    let loop-test· = c .before .before .before .before .before .before .before .before .before .before .before .before .before .before .before .loop-test in
+    let pre· = c .before .before .before .before .before .before .before .before .before .before .before .before .before .before .before .before .before .before .before .before .before .before .before .before .before .before .pre in
     (omega (arith, loop-test· .taken), pre· .4)
 
 sub-after-3 : tie.Need-sub-after-3 Inv-loop μ-loop
 sub-after-3 c =
-    let loop· = c .before .before .before .before .before .before .before .before .before .before .before .before .before .before .before .before .loop in
+    let loop· = c .before .before .before .before .before .before .before .before .before .before .before .before .before .before .before .before .before .before .loop in
     omega (arith, loop· .inv .1)
 
 after-requires-3 : tie.Need-after-requires-3 Inv-loop μ-loop
@@ -139,20 +157,20 @@ after-requires-3 c κs = search needs
 same-length-3 : tie.Need-same-length-3 Inv-loop μ-loop
 same-length-3 c =
     let open-next· = c .before .before .before .before .before .before .before .before .open-next in
-    let loop· = c .before .before .before .before .before .before .before .before .before .before .before .before .before .before .before .before .before .loop in
-    open-next· .kept .1 .1 .1 .1 .1 .1 .0 ∙ loop· .inv .3
+    let loop· = c .before .before .before .before .before .before .before .before .before .before .before .before .before .before .before .before .before .before .before .loop in
+    open-next· .kept .1 .1 .1 .1 .1 .1 .1 .0 ∙ loop· .inv .3
 
 returns-3 : tie.Need-returns-3 Inv-loop μ-loop
 returns-3 c =
-    let args· = c .before .before .before .before .before .before .before .before .before .before .before .before .before .before .before .before .before .before .before .before .before .before .before .before .before .before .args in
-    let head-of· = c .before .before .before .before .before .before .before .before .before .before .before .before .before .before .before .before .before .before .before .before .before .before .before .head-of in
-    let opens· = c .before .before .before .before .before .before .before .before .before .before .before .opens in
-    let if3· = c .before .before .before .before .before .before .before .before .before .before .if3 in
-    let loop· = c .before .before .before .before .before .before .before .before .before .before .before .before .before .before .before .before .before .loop in
-    let loop-test· = c .before .before .before .before .before .before .before .before .before .before .before .before .before .before .before .before .loop-test in
+    let args· = c .before .before .before .before .before .before .before .before .before .before .before .before .before .before .before .before .before .before .before .before .before .before .before .before .before .before .before .before .before .args in
+    let head-of· = c .before .before .before .before .before .before .before .before .before .before .before .before .before .before .before .before .before .before .before .before .before .before .before .before .before .before .head-of in
+    let opens· = c .before .before .before .before .before .before .before .before .before .before .before .before .before .opens in
+    let if3· = c .before .before .before .before .before .before .before .before .before .before .before .before .if3 in
+    let loop· = c .before .before .before .before .before .before .before .before .before .before .before .before .before .before .before .before .before .before .before .loop in
+    let loop-test· = c .before .before .before .before .before .before .before .before .before .before .before .before .before .before .before .before .before .before .loop-test in
     let after3· = c .after3 in
-    let pre· = c .before .before .before .before .before .before .before .before .before .before .before .before .before .before .before .before .before .before .before .before .before .before .before .before .before .before .pre in
-    let if1· = c .before .before .before .before .before .before .before .before .before .before .before .before .before .before .before .if1 in
+    let pre· = c .before .before .before .before .before .before .before .before .before .before .before .before .before .before .before .before .before .before .before .before .before .before .before .before .before .before .before .before .before .pre in
+    let if1· = c .before .before .before .before .before .before .before .before .before .before .before .before .before .before .before .before .before .if1 in
     let open-next· = c .before .before .before .before .before .before .before .before .open-next in
     let k : Inks _ _ (args· .look) = record { head = head-of· .ensures; size = refl } in
     let w = opens· .ensures (not-false (opens· .result) (if3· .left)) in
@@ -160,25 +178,25 @@ returns-3 c =
 
 loop-less : tie.Need-loop-less Inv-loop μ-loop
 loop-less c =
-    let loop-test· = c .before .before .before .before .before .before .before .before .before .before .before .before .before .before .before .loop-test in
+    let loop-test· = c .before .before .before .before .before .before .before .before .before .before .before .before .before .before .before .before .before .loop-test in
     omega (arith, loop-test· .taken)
 
 loop-again : tie.Need-loop-again Inv-loop μ-loop
 loop-again c =
-    let opens· = c .before .before .before .before .before .before .before .before .before .before .opens in
-    let if3· = c .before .before .before .before .before .before .before .before .before .if3 in
+    let opens· = c .before .before .before .before .before .before .before .before .before .before .before .before .opens in
+    let if3· = c .before .before .before .before .before .before .before .before .before .before .before .if3 in
     let open-next· = c .before .before .before .before .before .before .before .open-next in
-    let loop· = c .before .before .before .before .before .before .before .before .before .before .before .before .before .before .before .before .loop in
-    let loop-test· = c .before .before .before .before .before .before .before .before .before .before .before .before .before .before .before .loop-test in
-    let if1· = c .before .before .before .before .before .before .before .before .before .before .before .before .before .before .if1 in
-    let args· = c .before .before .before .before .before .before .before .before .before .before .before .before .before .before .before .before .before .before .before .before .before .before .before .before .before .args in
-    let pre· = c .before .before .before .before .before .before .before .before .before .before .before .before .before .before .before .before .before .before .before .before .before .before .before .before .before .pre in
+    let loop· = c .before .before .before .before .before .before .before .before .before .before .before .before .before .before .before .before .before .before .loop in
+    let loop-test· = c .before .before .before .before .before .before .before .before .before .before .before .before .before .before .before .before .before .loop-test in
+    let if1· = c .before .before .before .before .before .before .before .before .before .before .before .before .before .before .before .before .if1 in
+    let args· = c .before .before .before .before .before .before .before .before .before .before .before .before .before .before .before .before .before .before .before .before .before .before .before .before .before .before .before .before .args in
+    let pre· = c .before .before .before .before .before .before .before .before .before .before .before .before .before .before .before .before .before .before .before .before .before .before .before .before .before .before .before .before .pre in
     let w = opens· .ensures (not-false (opens· .result) (if3· .left)) in (
       open-next· .ensures .1,
       omega (arith, loop· .inv .1),
       omega (arith, loop-test· .taken),
-      open-next· .kept .1 .1 .1 .1 .1 .1 .0 ∙ loop· .inv .3,
-      omega (arith, if1· .left, loop· .inv .4, open-next· .ensures .2, open-next· .kept .1 .1 .1 .1 .1 .1 .0),
+      open-next· .kept .1 .1 .1 .1 .1 .1 .1 .0 ∙ loop· .inv .3,
+      omega (arith, if1· .left, loop· .inv .4, open-next· .ensures .2, open-next· .kept .1 .1 .1 .1 .1 .1 .1 .0),
       loop· .inv .5,
       after-moved (args· .pen) (loop· .place + 1 - args· .from) (open-next· .result .point) (omega (arith, loop· .inv .1)),
       λ l m k h t. reaches-opened _ _ _ _ _ _ _ l m _ _ _ _ _ _ _ (loop· .inv .1) (pre· .0) (loop· .inv .6) (omega (arith, if1· .left, loop· .inv .4)) (w .1) (λ o z. open-next· .ensures .0 l o m k z) (loop· .inv .7 l m k h t),
@@ -186,17 +204,25 @@ loop-again c =
 
 point-due-requires : tie.Need-point-due-requires Inv-loop μ-loop
 point-due-requires c κs =
-    let args· = c .before .before .before .before .before .before .before .before .before .before .before .before .before .before .args in
-    let pre· = c .before .before .before .before .before .before .before .before .before .before .before .before .before .before .pre in
+    let args· = c .before .before .before .before .before .before .before .before .before .before .before .before .before .before .before .args in
+    let pre· = c .before .before .before .before .before .before .before .before .before .before .before .before .before .before .before .pre in
     let loop· = c .before .before .before .before .before .loop in
     (multi-range (args· .look .domain) (pre· .1) .1, loop· .inv .2, pre· .4)
 
 enum-told : tie.Need-enum-told Inv-loop μ-loop
 enum-told c = search needs
 
+sub-drops : tie.Need-sub-drops Inv-loop μ-loop
+sub-drops c =
+    let loop· = c .before .before .before .before .before .before .before .before .loop in
+    loop· .inv .1
+
+drops-requires : tie.Need-drops-requires Inv-loop μ-loop
+drops-requires c κs = search needs
+
 sub-after-4 : tie.Need-sub-after-4 Inv-loop μ-loop
 sub-after-4 c =
-    let loop· = c .before .before .before .before .before .before .before .before .loop in
+    let loop· = c .before .before .before .before .before .before .before .before .before .before .loop in
     loop· .inv .1
 
 after-requires-4 : tie.Need-after-requires-4 Inv-loop μ-loop
@@ -204,17 +230,49 @@ after-requires-4 c κs = search needs
 
 same-length-4 : tie.Need-same-length-4 Inv-loop μ-loop
 same-length-4 c =
-    let loop· = c .before .before .before .before .before .before .before .before .before .loop in
+    let loop· = c .before .before .before .before .before .before .before .before .before .before .before .loop in
     loop· .inv .3
 
 returns-4 : tie.Need-returns-4 Inv-loop μ-loop
 returns-4 c =
-    let args· = c .before .before .before .before .before .before .before .before .before .before .before .before .before .before .before .before .before .before .args in
-    let head-of· = c .before .before .before .before .before .before .before .before .before .before .before .before .before .before .before .head-of in
-    let loop· = c .before .before .before .before .before .before .before .before .before .loop in
+    let args· = c .before .before .before .before .before .before .before .before .before .before .before .before .before .before .before .before .before .before .before .before .before .args in
+    let head-of· = c .before .before .before .before .before .before .before .before .before .before .before .before .before .before .before .before .before .before .head-of in
+    let loop· = c .before .before .before .before .before .before .before .before .before .before .before .loop in
     let after4· = c .after4 in
     let k : Inks _ _ (args· .look) = record { head = head-of· .ensures; size = refl } in
     reaches-end _ _ _ _ _ _ _ _ _ _ (args· .look) _ _ _ (loop· .inv .1) (loop· .inv .2) (after4· .ensures) (λ m. loop· .inv .7 (args· .look) m k refl refl)
+
+add-place-2 : tie.Need-add-place-2 Inv-loop μ-loop
+add-place-2 c =
+    let loop-test· = c .before .before .before .before .before .before .before .before .before .loop-test in
+    let fits· = c .before .before .before .before .before .before .before .before .before .before .before .before .before .before .before .before .before .before .before .before .fits in
+    omega (arith, loop-test· .taken, fits· .to)
+
+loop-less-2 : tie.Need-loop-less-2 Inv-loop μ-loop
+loop-less-2 c =
+    let loop-test· = c .before .before .before .before .before .before .before .before .before .loop-test in
+    omega (arith, loop-test· .taken)
+
+loop-again-2 : tie.Need-loop-again-2 Inv-loop μ-loop
+loop-again-2 c =
+    let drops· = c .before .drops in
+    let if5· = c .if5 in
+    let loop· = c .before .before .before .before .before .before .before .before .before .before .loop in
+    let loop-test· = c .before .before .before .before .before .before .before .before .before .loop-test in
+    let args· = c .before .before .before .before .before .before .before .before .before .before .before .before .before .before .before .before .before .before .before .before .args in
+    let if1· = c .before .before .before .before .before .before .before .before .if1 in
+    let if2· = c .before .before .before .before .before .if2 in
+    let role-due· = c .before .before .before .before .before .before .before .role-due in
+    let w = drops· .ensures (not-false (drops· .result) (if5· .left)) in (
+      loop· .inv .0,
+      omega (arith, loop· .inv .1),
+      omega (arith, loop-test· .taken),
+      loop· .inv .3,
+      loop· .inv .4,
+      loop· .inv .5,
+      after-moved (args· .pen) (loop· .place + 1 - args· .from) (loop· .point) (omega (arith, loop· .inv .1)),
+      λ l m k h t. reaches-dropped _ _ _ _ _ _ _ l m _ _ _ (w .2) (omega (arith, if1· .left, loop· .inv .4)) (omega (arith, if2· .left)) (w .1) (loop· .inv .0) (sym (role-due· .ensures) ∙ w .0) (loop· .inv .7 l m k h t),
+    )
 
 enum-known-whole : tie.Need-enum-known-whole Inv-loop μ-loop
 enum-known-whole c = search needs
@@ -231,27 +289,27 @@ trace-requires c κs =
 with-due-requires : tie.Need-with-due-requires Inv-loop μ-loop
 with-due-requires c κs = search needs
 
-add-place-2 : tie.Need-add-place-2 Inv-loop μ-loop
-add-place-2 c =
+add-place-3 : tie.Need-add-place-3 Inv-loop μ-loop
+add-place-3 c =
     let point-due· = c .before .before .before .before .before .before .before .before .before .point-due in
     let whole· = c .before .before .before .before .before .before .before .whole in
-    let fits· = c .before .before .before .before .before .before .before .before .before .before .before .before .before .before .before .before .before .before .before .before .before .before .before .before .fits in
+    let fits· = c .before .before .before .before .before .before .before .before .before .before .before .before .before .before .before .before .before .before .before .before .before .before .before .before .before .fits in
     let w = point-due· .ensures _ (whole· .given .1) in
     omega (arith, w .1, fits· .to)
 
-loop-less-2 : tie.Need-loop-less-2 Inv-loop μ-loop
-loop-less-2 c =
+loop-less-3 : tie.Need-loop-less-3 Inv-loop μ-loop
+loop-less-3 c =
     let point-due· = c .before .before .before .before .before .before .before .before .before .point-due in
     let whole· = c .before .before .before .before .before .before .before .whole in
-    let args· = c .before .before .before .before .before .before .before .before .before .before .before .before .before .before .before .before .before .before .before .before .before .before .before .before .args in
-    let pre· = c .before .before .before .before .before .before .before .before .before .before .before .before .before .before .before .before .before .before .before .before .before .before .before .before .pre in
+    let args· = c .before .before .before .before .before .before .before .before .before .before .before .before .before .before .before .before .before .before .before .before .before .before .before .before .before .args in
+    let pre· = c .before .before .before .before .before .before .before .before .before .before .before .before .before .before .before .before .before .before .before .before .before .before .before .before .before .pre in
     let w = point-due· .ensures _ (whole· .given .1) in
     omega (arith, w .1, multi-range (args· .look .domain) (pre· .1) .0)
 
-loop-again-2 : tie.Need-loop-again-2 Inv-loop μ-loop
-loop-again-2 c =
-    let args· = c .before .before .before .before .before .before .before .before .before .before .before .before .before .before .before .before .before .before .before .before .before .before .before .before .args in
-    let pre· = c .before .before .before .before .before .before .before .before .before .before .before .before .before .before .before .before .before .before .before .before .before .before .before .before .pre in
+loop-again-3 : tie.Need-loop-again-3 Inv-loop μ-loop
+loop-again-3 c =
+    let args· = c .before .before .before .before .before .before .before .before .before .before .before .before .before .before .before .before .before .before .before .before .before .before .before .before .before .args in
+    let pre· = c .before .before .before .before .before .before .before .before .before .before .before .before .before .before .before .before .before .before .before .before .before .before .before .before .before .pre in
     let point-due· = c .before .before .before .before .before .before .before .before .before .point-due in
     let whole· = c .before .before .before .before .before .before .before .whole in
     let loop· = c .before .before .before .before .before .before .before .before .before .before .before .before .before .before .before .loop in
@@ -286,8 +344,8 @@ same-length-5 c =
 
 returns-5 : tie.Need-returns-5 Inv-loop μ-loop
 returns-5 c =
-    let args· = c .before .before .before .before .before .before .before .before .before .before .before .args in
-    let head-of· = c .before .before .before .before .before .before .before .before .head-of in
+    let args· = c .before .before .before .before .before .before .before .before .before .before .before .before .args in
+    let head-of· = c .before .before .before .before .before .before .before .before .before .head-of in
     let loop· = c .before .before .loop in
     let after5· = c .after5 in
     let k : Inks _ _ (args· .look) = record { head = head-of· .ensures; size = refl } in
@@ -301,6 +359,7 @@ run-commands-spec =
     μ-loop
     head-of-requires
     cast-n
+    rows-requires
     row-of-requires
     loop-holds
     sub-if1
@@ -315,6 +374,9 @@ run-commands-spec =
     after-requires-2
     same-length-2
     returns-2
+    row-place-requires
+    mul-next
+    array-copy-out-next
     open-next-requires
     add-place
     leaves-strokes-requires
@@ -326,16 +388,21 @@ run-commands-spec =
     loop-again
     point-due-requires
     enum-told
+    sub-drops
+    drops-requires
     sub-after-4
     after-requires-4
     same-length-4
     returns-4
-    enum-known-whole
-    trace-requires
-    with-due-requires
     add-place-2
     loop-less-2
     loop-again-2
+    enum-known-whole
+    trace-requires
+    with-due-requires
+    add-place-3
+    loop-less-3
+    loop-again-3
     sub-after-5
     after-requires-5
     same-length-5
