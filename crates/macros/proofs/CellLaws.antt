@@ -1,14 +1,14 @@
 -- Laws of cells. No other file knows where the parts of a cell lie.
 -- Assumes nothing.
-use mathlib.Core.Path.{_≡_, refl, sym, ap, _∙_}
+use mathlib.Core.Path.{_≡_, sym, ap, _∙_}
 use mathlib.Core.Bool.{true}
-use mathlib.Core.List.{List, _∷_}
-use Prim.Native.Nat.{ℕ, zero, suc, _+_, _*_, _-_, _/_, _%_, _<_, _≤_}
+use mathlib.Core.List.{List, _∷_, _++_, append-nil, append-assoc}
+use Prim.Native.Nat.{ℕ, zero, suc, _+_, _*_, _-_, _<_, _≤_}
 use native.Mathlib.Omega.{arith}
-use lib.ListN.{length, getD, replicate, length-set, length-append, getD-replicate, List·getD-append}
+use lib.ListN.{length, set, replicate, length-set, replicate-append-replicate}
 use lib.Seq.{getD-set-same, getD-set-other}
 use Rattle.rules.specs.Store.{nextOf, setNext, countOf, setCount, goodCount, setBodyByte, linked, freshStore}
-use Rattle.rules.proofs.Lists.{getD-past}
+use Rattle.rules.proofs.Lists.{set-past}
 use Rattle.rules.proofs.Spans.{inside, least, most}
 use Rattle.macros.specs.Lent.{Sized}
 
@@ -56,65 +56,41 @@ pub next-setBodyByte : (st : List ℕ) (c i v d : ℕ) → i < 30 → nextOf (se
 unfolding nextOf setBodyByte
 next-setBodyByte st c i v d h = getD-set-other st (32 * c + 2 + i) (32 * d) v 0 (omega arith)
 
--- The linked cells, n of them from cell c on, by their bytes
-abbrev linkTo : ℕ → List ℕ
-linkTo c = c ∷ replicate 31 0
+-- The store with the cells up to cell k linked and the rest clear
+unfoldable pub linkedTo : ℕ → List ℕ
+linkedTo k = linked (suc k) 0 ++ replicate (32 * (255 - k)) 0
 
-length-linked : (n c : ℕ) → length (linked n c) ≡ 32 * n
+-- A clear cell after n + 1 linked cells joins them
+link-more : (n c m v : ℕ) → v ≡ suc (c + n) → set (linked (suc n) c ++ replicate (32 + m) 0) (32 * n) v ≡ linked (suc (suc n)) c ++ replicate m 0
 unfolding linked
-length-linked zero c = refl
-length-linked (suc zero) c = refl
-length-linked (suc (suc n)) c = length-append (linkTo (suc c)) (linked (suc n) (suc c)) ∙ omega (arith, length-linked (suc n) (suc c))
+link-more zero c m v e =
+    let cell : List ℕ = suc c ∷ replicate 31 0 in
+    let first : v ≡ suc c = omega arith in
+    ap (λ (w : ℕ). w ∷ replicate 31 0 ++ replicate (32 + m) 0) first
+    ∙ ap (λ (s : List ℕ). cell ++ s) (sym (replicate-append-replicate 32 m 0))
+    ∙ sym (append-assoc cell (replicate 32 0) (replicate m 0))
+link-more (suc n) c m v e =
+    let cell : List ℕ = suc c ∷ replicate 31 0 in
+    let rest : List ℕ = linked (suc n) (suc c) in
+    ap (λ (s : List ℕ). set s (32 * suc n) v) (append-assoc cell rest (replicate (32 + m) 0))
+    ∙ set-past cell (rest ++ replicate (32 + m) 0) (32 * suc n) (32 * n) v (omega arith)
+    ∙ ap (λ (s : List ℕ). cell ++ s) (link-more n (suc c) m v (omega arith))
+    ∙ sym (append-assoc cell (linked (suc (suc n)) (suc c)) (replicate m 0))
 
--- Byte 0 of a cell that is not the last
-linked-next : (n c k : ℕ) → suc k < n → getD (linked n c) (32 * k) 0 ≡ suc (c + k)
-unfolding linked
-linked-next zero c k h = absurd (omega arith)
-linked-next (suc zero) c k h = absurd (omega arith)
-linked-next (suc (suc n)) c zero h = omega arith
-linked-next (suc (suc n)) c (suc k) h =
-    getD-past (linkTo (suc c)) (linked (suc n) (suc c)) (32 * suc k) (32 * k) (omega arith)
-    ∙ linked-next (suc n) (suc c) k (omega arith)
-    ∙ omega arith
+pub linked-none : replicate 8192 0 ≡ linkedTo 0
+unfolding linkedTo linked
+linked-none = sym (replicate-append-replicate 32 8160 0)
 
--- Byte 0 of the last cell
-linked-end : (n c : ℕ) → getD (linked (suc n) c) (32 * n) 0 ≡ 0
-unfolding linked
-linked-end zero c = refl
-linked-end (suc n) c = getD-past (linkTo (suc c)) (linked (suc n) (suc c)) (32 * suc n) (32 * n) (omega arith) ∙ linked-end n (suc c)
+pub linked-more : (k : ℕ) → k < 255 → setNext (linkedTo k) k (k + 1) ≡ linkedTo (k + 1)
+unfolding linkedTo setNext
+linked-more k h =
+    let m = 32 * (255 - (k + 1)) in
+    let more : 32 * (255 - k) ≡ 32 + m = omega arith in
+    let all : suc (suc k) ≡ suc (k + 1) = omega arith in
+    ap (λ (z : ℕ). set (linked (suc k) 0 ++ replicate z 0) (32 * k) (k + 1)) more
+    ∙ link-more k 0 m (k + 1) (omega arith)
+    ∙ ap (λ (j : ℕ). linked j 0 ++ replicate m 0) all
 
--- The bytes after byte 0
-linked-inner : (n c k j : ℕ) → k < n → j < 31 → getD (linked n c) (32 * k + suc j) 0 ≡ 0
-unfolding linked
-linked-inner zero c k j h l = absurd (omega arith)
-linked-inner (suc zero) c k j h l = getD-replicate 32 (32 * k + suc j) 0 0 (omega arith)
-linked-inner (suc (suc n)) c zero j h l =
-    let e : 32 * 0 + suc j ≡ suc j = omega arith in
-    List·getD-append (linkTo (suc c)) (linked (suc n) (suc c)) 0 (32 * 0 + suc j) (omega arith)
-    ∙ ap (λ (i : ℕ). getD (linkTo (suc c)) i 0) e
-    ∙ getD-replicate 31 j 0 0 l
-linked-inner (suc (suc n)) c (suc k) j h l =
-    getD-past (linkTo (suc c)) (linked (suc n) (suc c)) (32 * suc k + suc j) (32 * k + suc j) (omega arith)
-    ∙ linked-inner (suc n) (suc c) k j (omega arith) l
-
--- The fresh store by its bytes
-pub length-fresh : length freshStore ≡ 8192
-unfolding freshStore
-length-fresh = length-linked 256 0
-
-module _ (i : ℕ) where
-  at-place : (j : ℕ) → i ≡ j → getD freshStore i 0 ≡ getD freshStore j 0
-  at-place j e = ap (λ (k : ℕ). getD freshStore k 0) e
-
-  pub fresh-next : i % 32 ≡ 0 → i / 32 < 255 → i / 32 + 1 ≡ getD freshStore i 0
-  unfolding freshStore
-  fresh-next m h = sym (at-place (32 * (i / 32)) (omega arith) ∙ linked-next 256 0 (i / 32) (omega arith) ∙ omega arith)
-
-  pub fresh-end : i % 32 ≡ 0 → 255 ≤ i / 32 → i < 8192 → 0 ≡ getD freshStore i 0
-  unfolding freshStore
-  fresh-end m h l = sym (at-place (32 * 255) (omega arith) ∙ linked-end 255 0)
-
-  pub fresh-inner : (i % 32 ≡ 0 → ⊥) → i < 8192 → 0 ≡ getD freshStore i 0
-  unfolding freshStore
-  fresh-inner m h =
-      sym (at-place (32 * (i / 32) + suc (i % 32 - 1)) (omega arith) ∙ linked-inner 256 0 (i / 32) (i % 32 - 1) (omega arith) (omega arith))
+pub linked-all : linkedTo 255 ≡ freshStore
+unfolding linkedTo freshStore
+linked-all = append-nil (linked 256 0)

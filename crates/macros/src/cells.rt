@@ -7,7 +7,7 @@ ghost use Rattle.macros.specs.Lent.{Sized};
 ghost use Rattle.macros.specs.Runs.{Laid};
 
 // The bytes of a cell: the next cell, the count, and the body bytes.
-pub const CELL_SIZE: usize = 32;
+const CELL_SIZE: usize = 32;
 
 pub const MOST_BYTES: u8 = 30;
 
