@@ -13,7 +13,6 @@ use borrow.Author.Tests.{leb-true, leb-false, eq-eqb, ne-eqb, eqb-true, not-true
 use Rattle.rules.specs.declared.Point.{Point}
 use Rattle.rules.specs.Operands.{bitsOf, fromTop, point}
 use Rattle.rules.proofs.Bools.{true-false, and-left, and-right, and-both, by-test, pick-yes, pick-no}
-use Rattle.coordinates.specs.declared.whole.Whole.{Whole}
 use Rattle.coordinates.specs.declared.whole.Whole.the-variants.{Cut, Whole as Whole·point}
 use Rattle.coordinates.specs.Steps.{joined}
 use Rattle.coordinates.specs.Data.{isData, allData, wholeOf, threeOf, threeAt}

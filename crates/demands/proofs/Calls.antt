@@ -2,18 +2,15 @@
 use Prim.Native.Nat.{ℕ}
 use mathlib.Core.Path.{_≡_, refl, sym, ap, _∙_, subst}
 use mathlib.Core.List.{List, [], _∷_, _++_}
-use mathlib.Core.Bool.{Bool, true, false}
-use lib.ListN.{length, take}
-use lib.Dec.{eqb}
+use lib.ListN.{take}
 use Rattle.rules.specs.declared.Session.{Session}
 use Rattle.rules.specs.declared.Answer.the-variants.{Done, Full}
-use Rattle.rules.specs.Store.{storeSize}
 use Rattle.rules.specs.Step.{State}
 use Rattle.rules.specs.Reading.{Reading, Steps, readTo, undivided}
-use Rattle.rules.specs.Calls.{Opening, openAs, openPage, opened, Handed, feed, unread, end, Lent, returned, join, feeds, lentBytes}
+use Rattle.rules.specs.Calls.{Opening, openPage, opened, Handed, feed, unread, end, Lent, returned, join, feeds, lentBytes}
 use Rattle.rules.specs.Expansion.{expansion, endPage, Accepted, allRecords, SameState}
-use Rattle.rules.proofs.Readings.{Waits, refused-done}
-use Rattle.rules.proofs.Demand3.{ReadsUndivided, cut-alike, drawn-alike}
+use Rattle.rules.proofs.Readings.{Waits}
+use Rattle.rules.proofs.Demand3.{ReadsUndivided, accepted-open, cut-alike, drawn-alike}
 use Rattle.reader.specs.declared.open.Opened.{Opened}
 use Rattle.reading.specs.declared.Fed.{Fed}
 use Rattle.reader.specs.declared.end.Ended.{Ended}
@@ -60,15 +57,6 @@ cut-alike-calls budget lent st o h a c cs x t =
         subst (λ (w : State). ReadsUndivided w c cs) (sym (ap (λ (y : Opening). y .state) h))
         (cut-alike budget lent (sym (ap (λ (y : Opening). y .answer) h) ∙ a) c cs)
 
--- An open that answered done handed over the fresh state
-fresh-opened : (budget : ℕ) (lent : List ℕ) → openPage budget lent .answer ≡ Done → openPage budget lent .state ≡ opened budget
-unfolding openPage openAs
-fresh-opened budget lent = by (eqb (length lent) storeSize)
-  where
-    by : (t : Bool) → openAs t budget lent .answer ≡ Done → openAs t budget lent .state ≡ opened budget
-    by true a = refl
-    by false a = refused-done a
-
 -- Macros: where the list's last answer is done and an end after it answers done, the expansion of the bytes lent is accepted, and
 -- read from a session opened alike it gives the same records and leaves the same state
 pub record SamePicture (budget : ℕ) (page records : List ℕ) (w : State) : Type 0 where
@@ -81,7 +69,7 @@ pub drawn-alike-calls : (budget : ℕ) (lent st : List ℕ) (o : Opened) → ope
     → (e : Ended) (buffer out : List ℕ) → endingOf e (x .state .store) out ≡ end (x .state) buffer → e .answer ≡ Done
     → SamePicture budget (lentBytes c cs) (x .records ++ take (e .written) out) (stateLent (e .session) (x .state .store))
 drawn-alike-calls budget lent st o h a c cs x t d e buffer out k f =
-    let w : stateLent (o .session) st ≡ opened budget = ap (λ (y : Opening). y .state) h ∙ fresh-opened budget lent (sym (ap (λ (y : Opening). y .answer) h) ∙ a) in
+    let w : stateLent (o .session) st ≡ opened budget = ap (λ (y : Opening). y .state) h ∙ accepted-open budget lent (sym (ap (λ (y : Opening). y .answer) h) ∙ a) in
     let g : x ≡ feeds (opened budget) [] c cs = fed-feeds t ∙ ap (λ (v : State). feeds v [] c cs) w in
     let j : endingOf e (x .state .store) out ≡ end (feeds (opened budget) [] c cs .state) buffer = k ∙ ap (λ (y : Reading). end (y .state) buffer) g in
     let m = drawn-alike budget c cs buffer (ap (λ (y : Reading). y .answer) (sym g) ∙ d) (ap (λ (y : Handed). y .answer) (sym j) ∙ f) in

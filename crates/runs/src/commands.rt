@@ -1,4 +1,5 @@
 // A run of the PDI set: points that come whole, opcodes and recorded controls.
+use crate::ROOM_FOR_STEP;
 use crate::Ran;
 use crate::finishing::is_foreground;
 use crate::finishing::open_next;
@@ -31,8 +32,6 @@ ghost use Rattle.rules.specs.Ranges.{domainFits, commandFits};
 ghost use Rattle.runs.specs.Run.{ActsAs, Run, standing};
 ghost use Rattle.runs.specs.Strokes.{penAfter};
 ghost use Rattle.runs.specs.Tracing.{isForeground, asked};
-
-const ROOM_FOR_STEP: usize = 120;
 
 // POINT SET and LINE, absolute: many points of theirs have a loop of their own.
 pub fn is_stroke(opcode: u8) -> bool {

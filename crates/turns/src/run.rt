@@ -1,6 +1,5 @@
 // Runs: consecutive bytes read at once, beside the turns of a reading. A run may end before any byte, since a turn follows.
 use crate::step::Progress;
-use crate::turn::ROOM_FOR_STEP;
 use crate::turn::at_depth;
 use bodies::body_at;
 use bodies::calls::empty_calls;
@@ -17,6 +16,7 @@ use rules::Repertoire;
 use rules::Set;
 use rules::Sets;
 use rules::Waiting;
+use runs::ROOM_FOR_STEP;
 use runs::Ran;
 use runs::commands::is_stroke;
 use runs::commands::run_commands;

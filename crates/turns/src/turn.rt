@@ -10,6 +10,7 @@ use rules::Answer;
 use rules::Cursor;
 use rules::Read;
 use rules::Refusal;
+use runs::ROOM_FOR_STEP;
 ghost use mathlib.Core.Path.{_≡_};
 ghost use Prim.Native.Nat.{ℕ, _≤_, _<_, _-_};
 ghost use lib.ListN.{length, drop};
@@ -22,9 +23,6 @@ ghost use Rattle.rules.specs.Ranges.{waitingFits};
 ghost use Rattle.bodies.specs.Stack.{bodiesOf};
 ghost use Rattle.turns.specs.Turn.{turn, nothingLeft, nextByte, sourceAt, leaves};
 ghost use Rattle.turns.specs.View.{stateAt, atDepth, leftOf, Due, RoomBy};
-
-// The most that the records of one step take.
-pub const ROOM_FOR_STEP: usize = 120;
 
 fn nothing_left(depth: u8, piece: &[u8], at: usize) -> bool
     ensures { λ r. ⌜ r ≡ nothingLeft depth (drop at (now (piece .entry))) ⌝ }
