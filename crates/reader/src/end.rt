@@ -4,6 +4,7 @@ use bodies::bytes_left;
 use drawing::act;
 use drawing::closing::opened;
 use figures::answers::ORIGIN;
+use records::ROOM_FOR_STEP;
 use rules::Action;
 use rules::Answer;
 use rules::Drawing;
@@ -29,8 +30,6 @@ ghost use Rattle.reading.specs.Handing.{stateLent};
 ghost use Rattle.reader.specs.Ending.{endingOf, sessionWith};
 
 // Room for three records.
-const ROOM_FOR_STEP: usize = 120;
-
 pub struct Ended {
     pub answer: Answer,
     pub written: usize,

@@ -33,9 +33,9 @@ use Rattle.turns.specs.Turn.{turn, Left, leaves}
 use Rattle.turns.specs.View.{stateAt, answered, sessionAfter, leftOf, startOf, atDepth, writtenTo, DueBy, Due, RoomBy, readOnIf}
 use Rattle.reading.specs.Handing.{stateLent, handedOf, fedOf}
 use Rattle.runs.specs.Strokes.{penAfter}
-use Rattle.turns.specs.Walk.{placeAfter, ranOn}
+use Rattle.advance.specs.Walk.{placeAfter, ranOn}
 use Rattle.turns.proofs.StepLaws.{draw-refused, draw-goes}
-use Rattle.turns.proofs.ProgressLaws.{after-same}
+use Rattle.advance.proofs.ProgressLaws.{after-same}
 use Rattle.reading.proofs.Whole.{Kept, Next, kept-first, kept-next, wholeReading}
 
 -- The state once a reading has ended, as a session

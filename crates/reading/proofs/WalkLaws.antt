@@ -10,7 +10,7 @@ use Rattle.rules.specs.Step.{State, removeSpent, Source}
 use Rattle.rules.proofs.Readings.{reading-removed}
 use Rattle.rules.proofs.Steps.{Valid, remove-later}
 use Rattle.turns.specs.Turn.{Steps, turn}
-use Rattle.turns.specs.Walk.{Place, budgetLeft, Walk, none, removed, step}
+use Rattle.advance.specs.Walk.{Place, budgetLeft, Walk, none, removed, step}
 use Rattle.reading.proofs.Turns.{Advance, Follows, turn-follows}
 use Rattle.reading.proofs.Whole.{Kept, kept-on}
 

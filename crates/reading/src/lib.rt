@@ -1,4 +1,8 @@
 // A reading of a piece, turn by turn and run by run, as far as the output has room.
+use advance::after_run;
+use advance::run_coded;
+use advance::run_drawn;
+use advance::run_strokes;
 use rules::Answer;
 use rules::Bodies;
 use rules::Coding;
@@ -10,10 +14,6 @@ use rules::Refusal;
 use rules::Session;
 use rules::Status;
 use runs::points::resting;
-use turns::run::after_run;
-use turns::run::run_coded;
-use turns::run::run_drawn;
-use turns::run::run_strokes;
 use turns::step::Course;
 use turns::step::Progress;
 use turns::step::draw;

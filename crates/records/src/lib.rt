@@ -15,6 +15,9 @@ use rules::Repertoire;
 
 const ORIGIN: Point = Point { x: 0, y: 0 };
 
+// The room of a step, which writes at most three records.
+pub const ROOM_FOR_STEP: usize = 120;
+
 fn put_word(out: &mut [u8], at: usize, n: u32)
     requires { ⌜ at + 4 ≤ length (now out) ⌝ }
     ensures { λ _. ⌜ now (out .exit) ≡ overwrite at (word n) (now (out .entry)) ⌝ }

@@ -1,5 +1,4 @@
 // A run of the PDI set: points that come whole, opcodes and recorded controls.
-use crate::ROOM_FOR_STEP;
 use crate::Ran;
 use crate::finishing::is_foreground;
 use crate::finishing::open_next;
@@ -11,6 +10,7 @@ use coordinates::whole::are_data;
 use coordinates::whole::three_bytes;
 use drawing::operands::role_due;
 use drawing::operands::with_due;
+use records::ROOM_FOR_STEP;
 use records::head_of;
 use rules::Command;
 use rules::Look;

@@ -6,6 +6,7 @@ pub mod strokes;
 pub mod text;
 pub mod tracing;
 
+use records::ROOM_FOR_STEP;
 use rules::Command;
 use rules::Pen;
 ghost use Prim.Native.Nat.{ℕ, _+_, _*_, _<_, _≤_};
@@ -18,9 +19,6 @@ pub struct Ran {
     pub pen: Pen,
     pub command: Command,
 }
-
-// The room of a step: at most three records are written.
-pub const ROOM_FOR_STEP: usize = 120;
 
 // How many steps of one record each can be taken before what is left ends, or the room for a step.
 pub fn most_steps(left: usize, room: usize) -> usize

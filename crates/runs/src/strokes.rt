@@ -1,5 +1,4 @@
 // Runs of POINT SET and LINE to points of three bytes in two dimensions.
-use crate::ROOM_FOR_STEP;
 use crate::most_steps;
 use coordinates::whole::are_data;
 use coordinates::whole::has_three;
@@ -7,6 +6,7 @@ use coordinates::whole::point_of_three;
 use coordinates::whole::three_bytes;
 use figures::answers::ORIGIN;
 use records::Head;
+use records::ROOM_FOR_STEP;
 use records::head_of;
 use records::put_words;
 use rules::Command;

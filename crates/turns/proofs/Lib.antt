@@ -1,4 +1,2 @@
-pub mod RunLaws
 pub mod StepLaws
 pub mod TurnLaws
-pub mod ProgressLaws

@@ -1,4 +1,3 @@
-// The turns of a reading, one accepted step each, and the runs that take many at once.
-pub mod run;
+// The turns of a reading, one accepted step each.
 pub mod step;
 pub mod turn;

@@ -7,7 +7,7 @@ use Rattle.figures.specs.Carried.{drawingOf}
 use Rattle.runs.specs.Strokes.{penAfter}
 use Rattle.turns.specs.declared.step.Progress.{Progress}
 use Rattle.turns.specs.View.{stateAt}
-use Rattle.turns.proofs.ProgressLaws.{valid-domain, valid-command, pen-none}
+use Rattle.advance.proofs.ProgressLaws.{valid-domain, valid-command, pen-none}
 use Rattle.turns.proofs.TurnLaws.{valid-store, valid-depth}
 use Rattle.reading.proofs.ReadLaws.{loop-first, loop-on, loop-ends, loop-draws, loop-refused, drawn-due, drawn-room, kept-still, kept-strokes}
 use Rattle.reading.proofs.WalkLaws.{walk-keeps}
