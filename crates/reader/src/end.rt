@@ -29,7 +29,6 @@ ghost use Rattle.rules.proofs.Steps.{Valid};
 ghost use Rattle.reading.specs.Handing.{stateLent};
 ghost use Rattle.reader.specs.Ending.{endingOf, sessionWith};
 
-// Room for three records.
 pub struct Ended {
     pub answer: Answer,
     pub written: usize,
