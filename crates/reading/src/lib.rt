@@ -13,7 +13,7 @@ use rules::Pen;
 use rules::Refusal;
 use rules::Session;
 use rules::Status;
-use runs::points::resting;
+use runs::resting;
 use turns::step::Course;
 use turns::step::Progress;
 use turns::step::draw;

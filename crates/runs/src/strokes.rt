@@ -29,6 +29,11 @@ const POINT_SET: u8 = 36;
 
 const LINE: u8 = 40;
 
+// Whether many points of the opcode have a loop of their own.
+pub fn is_stroke(opcode: u8) -> bool {
+    opcode == POINT_SET || opcode == LINE
+}
+
 // How many bytes were taken, and the last point.
 struct Moved {
     count: usize,

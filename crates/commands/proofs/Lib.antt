@@ -1,0 +1,4 @@
+pub mod TraceLaws
+pub mod PointLaws
+pub mod FinishLaws
+pub mod PdiLaws
