@@ -39,7 +39,7 @@ use Rattle.idle.specs.Idle.{Idle, coded}
 use Rattle.idle.specs.declared.Idled.{Idled}
 use Rattle.turns.specs.declared.step.Progress.{Progress}
 use Rattle.turns.specs.View.{atDepth}
-use Rattle.advance.specs.Walk.{Place, placed, placeAt, Walk, none, removed, step, placeAfter, sourceOf, placesAfter, Passes, Lies, ranOn, Most, codedOn}
+use Rattle.advance.specs.Walk.{Place, placed, placeAt, Walk, none, removed, step, placeAfter, sourceOf, placesAfter, Lies, ranOn, Most, codedOn}
 use Rattle.turns.proofs.TurnLaws.{spent-removed}
 use Rattle.advance.proofs.RunLaws.{run-walk, piece-feeds, body-feeds, idle-walk, calls-walk}
 
@@ -239,9 +239,6 @@ after-same zero at = add-zero at
 after-same (suc i) at = refl
 
 -- No byte is drawn
-pub ran-none : (n written : ℕ) (p : Progress) → n ≡ 0 → written ≡ p .written → ranOn n written p ≡ p
-ran-none n written p e f = rw (e, f, after-same (p .depth) (p .at), add-zero (p .steps))
-
 pub pen-none : (pen : Pen) (n : ℕ) (q : Point) → n ≡ 0 → penAfter n pen q ≡ pen
 pen-none pen n q e = rw e
 

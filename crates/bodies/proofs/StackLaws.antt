@@ -9,24 +9,15 @@ use native.Mathlib.Numerals.{add-one, sub-one}
 use native.Mathlib.Omega.{arith}
 use lib.Dec.{ltb}
 use borrow.Author.Tests.{le-leb, lt-leb, ltb-true, ltb-false}
-use lib.ListN.{length, getD, set, drop, drop-of-length-le}
+use lib.ListN.{length, getD, drop, drop-of-length-le}
 use lib.Seq.{drop-cons}
 use Rattle.rules.specs.declared.Bodies.{Bodies}
 use Rattle.rules.specs.declared.Cursor.{Cursor}
 use Rattle.rules.specs.Choice.{pick}
-use Rattle.rules.specs.Bodies.{bodyAt, withBody, hasLeft, depthLeft, pushed}
+use Rattle.rules.specs.Bodies.{bodyAt, hasLeft, depthLeft}
 use Rattle.rules.specs.Ranges.{placesFit}
 use Rattle.rules.proofs.Bools.{pick-yes, pick-no}
-use Rattle.bodies.specs.Stack.{bodiesOf}
 use Rattle.bodies.specs.Calls.{NamesEmpty, CallsEmpty}
-
--- What `set_body` leaves is the rules' stack with that body, at any depth
-pub set-is-with : (d e i c p : ℕ) (cells places : List ℕ) → bodiesOf d (set cells i c) (set places i p) ≡ withBody d i (record { cell = c; place = p }) (bodiesOf e cells places)
-set-is-with d e i c p cells places = refl
-
--- and at the depth, from a place of 0 on, the stack with a call begun
-pub set-is-pushed : (d c : ℕ) (cells places : List ℕ) → bodiesOf (suc d) (set cells d c) (set places d 0) ≡ pushed c (bodiesOf d cells places)
-set-is-pushed d c cells places = refl
 
 -- Removal: no body is left, the innermost has bytes left, it has none
 module _ (st : List ℕ) (y : Bodies) where

@@ -24,13 +24,13 @@ use Rattle.rules.specs.declared.Row.{Row}
 use Rattle.rules.specs.declared.Set.{Set}
 use Rattle.rules.specs.declared.Set.the-variants.{Pdi}
 use Rattle.rules.specs.Coding.{controls}
-use Rattle.rules.specs.Drawing.{other, rows, rowOf, roleOf, lengthOf, noOperand, Outcome, Refuse, Draw, act}
+use Rattle.rules.specs.Drawing.{other, rows, rowOf, roleOf, noOperand, Outcome, Refuse, Draw, act}
 use Rattle.rules.specs.Ranges.{domainFits}
+use Rattle.rules.proofs.DrawingRanges.{dropped-same}
 use Rattle.rules.proofs.Tables.{at}
 use Rattle.rules.proofs.Bools.{false-true, and-left, and-right, pick-yes, pick-no}
 use Rattle.figures.specs.Carried.{Carried, carry, drawingOf}
 use Rattle.figures.proofs.Carrying.{carry-none}
-use Rattle.drawing.proofs.OperandLaws.{data-dropped}
 use Rattle.runs.specs.declared.Ran.{Ran}
 use Rattle.runs.specs.Run.{ActsAs, Run, none, more, standing}
 use Rattle.runs.specs.Strokes.{penAfter}
@@ -105,10 +105,9 @@ reaches-opened bytes from x p₀ i p c l m at out a q c′ at′ out′ h z e ro
 -- Data is dropped, and nothing changes
 data-nothing : (b : ℕ) (d : Drawing) (at : ℕ) (out : List ℕ) (r : Row) → r ≡ rowOf (d .command .opcode) → roleOf (r .pattern) (d .command .due) ≡ Dropped
     → record { refused = false; drawing = d; at = at; output = out } ≡ carry (act (Data b) d) d at out
-unfolding act lengthOf
 data-nothing b d at out r own role =
     sym (carry-none d d at out)
-    ∙ data-dropped (rowOf (d .command .opcode)) b d at out Dropped 0 (sym (subst (λ (x : Row). roleOf (x .pattern) (d .command .due) ≡ Dropped) own role)) refl refl
+    ∙ ap (λ (o : Outcome). carry o d at out) (sym (dropped-same b d (subst (λ (x : Row). roleOf (x .pattern) (d .command .due) ≡ Dropped) own role)))
 
 pub reaches-dropped : (bytes : List ℕ) (from : ℕ) (x : Carried) (p₀ : Pen) (i : ℕ) (p : Point) (c : Command) (l : Look) (m : List ℕ) (at : ℕ) (out : List ℕ) (r : Row)
     → 1 ≤ i - from → at + 120 ≤ length out → 64 ≤ getD bytes i 0 → getD bytes i 0 ≤ 127 → r ≡ rowOf (c .opcode) → roleOf (r .pattern) (c .due) ≡ Dropped

@@ -7,11 +7,10 @@ use native.Mathlib.Nat.{add-zero, zero-mul, div-one, mod-eq-of-lt}
 use native.Mathlib.Numerals.{add-one}
 use native.Mathlib.Omega.{arith}
 use lib.Dec.{eqb}
-use lib.ListN.{length, getD, set, take, drop, replicate}
-use lib.Seq.{take-suc, take-suc-set, length-take-le}
+use lib.ListN.{length, getD, take, drop, replicate}
+use lib.Seq.{take-suc, length-take-le}
 use Rattle.rules.specs.declared.Point.{Point}
-use Rattle.rules.specs.declared.Operand.{Operand}
-use Rattle.rules.specs.Operands.{bit, xBits, yBits, greenBits, redBits, blueBits, bitsOf, fromTop, point, address, begun, wrappedSum}
+use Rattle.rules.specs.Operands.{bit, xBits, yBits, greenBits, redBits, blueBits, bitsOf, fromTop, point, address, wrappedSum}
 use Rattle.rules.specs.Drawing.{domainOf}
 use Rattle.coordinates.specs.Steps.{joined, pair, pairs}
 use Rattle.coordinates.proofs.Bits.{from-none, from-append, from-above, from-zeros, from-lt, from-more, all-bits, row, row-length, row-bits, row-zeros, from-row}
@@ -59,12 +58,6 @@ point-more true bs b = λ i. record { x = one-more 2 4 bs b i; y = one-more 2 2 
 pub point-next : (three : Bool) (bs : List ℕ) (i : ℕ) → i < length bs → point three (take (i + 1) bs) ≡ joined three i (getD bs i 0) (point three (take i bs))
 point-next three bs i h =
     rw (add-one, take-suc bs i 0 h, point-more three (take i bs) (getD bs i 0), length-take-le i bs (omega arith))
-
--- The same of an operand that a data byte joins
-pub point-begun : (three : Bool) (o : Operand) (b : ℕ) → o .count < length (o .bytes) → point three (begun (record { bytes = set (o .bytes) (o .count) b; count = suc (o .count) })) ≡ joined three (o .count) b (point three (begun o))
-unfolding begun
-point-begun three o b h =
-    rw (take-suc-set (o .bytes) (o .count) b h, point-more three (take (o .count) (o .bytes)) b, length-take-le (o .count) (o .bytes) (omega arith))
 
 -- The code's shifts: by 3 bits for each byte before, or by 2
 module _ (p : Point) (x y i b : ℕ) (h : i < 8) where

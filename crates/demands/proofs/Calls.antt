@@ -1,6 +1,6 @@
 -- Demand 3 of the public calls, as one reads them: whatever open, feed and end of crate `reader` answered, by their contracts
 use Prim.Native.Nat.{ℕ}
-use mathlib.Core.Path.{_≡_, refl, sym, ap, _∙_, subst}
+use mathlib.Core.Path.{_≡_, sym, ap, _∙_, subst}
 use mathlib.Core.List.{List, [], _∷_, _++_}
 use lib.ListN.{take}
 use Rattle.rules.specs.declared.Session.{Session}
