@@ -12,10 +12,10 @@ use Rattle.rules.specs.Expansion.{expansion, endPage, Accepted, allRecords, Sam
 use Rattle.rules.proofs.Readings.{Waits}
 use Rattle.rules.proofs.Demand3.{ReadsUndivided, accepted-open, cut-alike, drawn-alike}
 use Rattle.reader.specs.declared.open.Opened.{Opened}
-use Rattle.reading.specs.declared.Fed.{Fed}
+use Rattle.handing.specs.declared.Fed.{Fed}
 use Rattle.reader.specs.declared.end.Ended.{Ended}
 use Rattle.reader.specs.Answers.{openingOf}
-use Rattle.reading.specs.Handing.{stateLent, handedOf}
+use Rattle.handing.specs.Handing.{stateLent, handedOf}
 use Rattle.reader.specs.Ending.{endingOf}
 
 -- A list of feed calls as they were made, from a session s and a store st, with bs left unread before: each answered by feed's

@@ -31,7 +31,7 @@ use Rattle.figures.specs.declared.Drawn.{Drawn}
 use Rattle.figures.specs.Carried.{Carried, carry, drawingOf, carriedOf}
 use Rattle.drawing.proofs.Refusals.{OnlyVertices}
 use Rattle.reader.specs.declared.end.Ended.{Ended as End}
-use Rattle.reading.specs.Handing.{stateLent}
+use Rattle.handing.specs.Handing.{stateLent}
 use Rattle.reader.specs.Ending.{endingOf, sessionWith}
 
 -- From the answer of closing: refused, the session is stopped with 9 and the output left; else the session is ended

@@ -1,2 +1,2 @@
-pub mod VerdictLaws
+pub mod FeedLaws
 pub mod EndLaws

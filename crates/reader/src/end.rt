@@ -1,5 +1,4 @@
 // Ending a page.
-use crate::verdict::verdict;
 use bodies::bytes_left;
 use drawing::act;
 use drawing::closing::opened;
@@ -15,6 +14,7 @@ use rules::Session;
 use rules::Status;
 use rules::Verdict;
 use tables::escapes::unfinished;
+use verdict::verdict;
 ghost use mathlib.Core.Path.{_≡_};
 ghost use mathlib.Core.List.{List};
 ghost use Prim.Native.Nat.{ℕ, _≤_};
@@ -26,7 +26,7 @@ ghost use Rattle.rules.specs.Calls.{handed, ended, ending, end};
 ghost use Rattle.rules.specs.Reading.{roomForStep};
 ghost use Rattle.rules.proofs.RecordCount.{closed};
 ghost use Rattle.rules.proofs.Steps.{Valid};
-ghost use Rattle.reading.specs.Handing.{stateLent};
+ghost use Rattle.handing.specs.Handing.{stateLent};
 ghost use Rattle.reader.specs.Ending.{endingOf, sessionWith};
 
 pub struct Ended {

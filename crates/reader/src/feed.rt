@@ -1,13 +1,13 @@
 // Feed: the tests of what is lent, then a reading of the piece.
-use crate::verdict::verdict;
-use reading::Fed;
+use handing::Fed;
 use reading::read;
 use rules::Answer;
 use rules::Session;
 use rules::Verdict;
+use verdict::verdict;
 ghost use mathlib.Core.Path.{_≡_};
 ghost use Rattle.rules.specs.Calls.{feed};
-ghost use Rattle.reading.specs.Handing.{stateLent, handedOf};
+ghost use Rattle.handing.specs.Handing.{stateLent, handedOf};
 
 pub fn feed(session: Session, store: &mut [u8], piece: &[u8], out: &mut [u8]) -> Fed
     ensures { λ r. ⌜ handedOf r (now (store .exit)) (now (out .exit)) ≡ feed (stateLent session (now (store .entry))) (now (piece .entry)) (now (out .entry)) ⌝ }

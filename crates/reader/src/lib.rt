@@ -5,4 +5,3 @@ pub mod feed;
 pub mod number;
 pub mod open;
 pub mod unread;
-pub mod verdict;

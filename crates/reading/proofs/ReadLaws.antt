@@ -28,10 +28,10 @@ use Rattle.bodies.specs.Stack.{bodiesOf}
 use Rattle.turns.specs.declared.step.Course.the-variants.{GoesOn, Ends, Draws}
 use Rattle.turns.specs.declared.step.Progress.{Progress}
 use Rattle.turns.specs.declared.step.Turned.{Turned}
-use Rattle.reading.specs.declared.Fed.{Fed}
+use Rattle.handing.specs.declared.Fed.{Fed}
 use Rattle.turns.specs.Turn.{turn, Left, leaves}
 use Rattle.turns.specs.View.{stateAt, answered, sessionAfter, leftOf, startOf, atDepth, writtenTo, DueBy, Due, RoomBy, readOnIf}
-use Rattle.reading.specs.Handing.{stateLent, handedOf, fedOf}
+use Rattle.handing.specs.Handing.{stateLent, handedOf, fedOf}
 use Rattle.runs.specs.Strokes.{penAfter}
 use Rattle.advance.specs.Walk.{placeAfter, ranOn}
 use Rattle.turns.proofs.StepLaws.{draw-refused, draw-goes}

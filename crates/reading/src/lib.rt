@@ -3,19 +3,15 @@ use advance::after_run;
 use advance::run_coded;
 use advance::run_drawn;
 use advance::run_strokes;
+use handing::Fed;
+use handing::finish;
+use handing::start;
+use handing::with_written;
 use rules::Answer;
-use rules::Bodies;
-use rules::Coding;
-use rules::Command;
-use rules::Drawing;
-use rules::Look;
-use rules::Pen;
 use rules::Refusal;
 use rules::Session;
-use rules::Status;
 use runs::resting;
 use turns::step::Course;
-use turns::step::Progress;
 use turns::step::draw;
 use turns::turn::at_depth;
 use turns::turn::turn;
@@ -25,99 +21,7 @@ ghost use lib.ListN.{length};
 ghost use Rattle.rules.specs.Reading.{Room, reading};
 ghost use Rattle.rules.specs.Calls.{handed};
 ghost use Rattle.rules.proofs.Steps.{Valid};
-ghost use Rattle.figures.specs.Carried.{drawingOf};
-ghost use Rattle.turns.specs.View.{startOf, writtenTo, statusAfter, sessionAfter};
-ghost use Rattle.reading.specs.Handing.{stateLent, handedOf, fedOf};
-
-// What a reading hands over, beside the store and the output.
-pub struct Fed {
-    pub answer: Answer,
-    pub consumed: usize,
-    pub written: usize,
-    pub session: Session,
-}
-
-fn start(session: Session) -> Progress
-    ensures { λ r. ⌜ r ≡ startOf session ⌝ }
-{
-    let bodies = session.bodies;
-    let coding = session.coding;
-    let sets = coding.sets;
-    let waiting = coding.waiting;
-    Progress {
-        at: 0,
-        written: 0,
-        steps: session.steps,
-        depth: bodies.depth,
-        sets,
-        waiting,
-    }
-}
-
-fn status_after(answer: Answer) -> Status
-    ensures { λ r. ⌜ r ≡ statusAfter answer ⌝ }
-{
-    match answer {
-        Answer::Done => Status::Running,
-        Answer::Full => Status::Running,
-        Answer::Refused(refusal) => Status::Stopped(refusal),
-    }
-}
-
-// What a reading that has ended hands over.
-fn finish(
-    answer: Answer,
-    budget: u32,
-    progress: Progress,
-    pen: Pen,
-    command: Command,
-    look: Look,
-    cells: [u8; 8],
-    places: [u8; 8],
-    firsts: [u8; 96],
-    map: [u8; 48],
-) -> Fed
-    ensures { λ r. ⌜ r ≡ fedOf answer progress (sessionAfter answer budget progress cells places firsts (drawingOf pen command look map)) ⌝ }
-{
-    let sets = progress.sets;
-    let waiting = progress.waiting;
-    let status = status_after(answer);
-    let session = Session {
-        budget,
-        steps: progress.steps,
-        status,
-        bodies: Bodies {
-            depth: progress.depth,
-            cells,
-            places,
-        },
-        coding: Coding {
-            sets,
-            waiting,
-            firsts,
-        },
-        drawing: Drawing {
-            pen,
-            command,
-            look,
-            map,
-        },
-    };
-    Fed {
-        answer,
-        consumed: progress.at,
-        written: progress.written,
-        session,
-    }
-}
-
-fn with_written(progress: Progress, written: usize) -> Progress
-    ensures { λ r. ⌜ r ≡ writtenTo written progress ⌝ }
-{
-    let mut progress = progress;
-    progress.written = written;
-    progress
-}
+ghost use Rattle.handing.specs.Handing.{stateLent, handedOf};
 
 // The turns of a reading, until one ends it.
 pub fn read(session: Session, store: &mut [u8], piece: &[u8], out: &mut [u8]) -> Fed

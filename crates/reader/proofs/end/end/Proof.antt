@@ -9,7 +9,7 @@ use Rattle.reader.proofs.end.end.Reads as reads
 use Rattle.reader.proofs.end.end.Lts as lts
 use Rattle.reader.proofs.end.end_running.Reads as end-running-reads
 use Rattle.reader.proofs.end.rest.Reads as rest-reads
-use Rattle.reader.proofs.verdict.verdict.Reads as verdict-reads
+use Rattle.verdict.proofs.verdict.Reads as verdict-reads
 
 -- src/end.rt:156:11
 verdict-requires : tie.Need-verdict-requires

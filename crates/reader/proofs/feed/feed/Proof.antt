@@ -1,4 +1,4 @@
-use Rattle.reader.proofs.VerdictLaws.{feed-fails, feed-valid, feed-passes}
+use Rattle.reader.proofs.FeedLaws.{feed-fails, feed-valid, feed-passes}
 use Rattle.rules.specs.Reading.{tests}
 use denote.Ref.{now}
 use mathlib.Core.Path.{_∙_}

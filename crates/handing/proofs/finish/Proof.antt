@@ -1,0 +1,14 @@
+use borrow.Author.Needs.{needs}
+use Rattle.handing.proofs.finish.Statement.{statement}
+use Rattle.handing.proofs.finish.Tie as tie
+
+status-after-requires : tie.Need-status-after-requires
+status-after-requires c κs = search needs
+
+returns : tie.Need-returns
+returns c =
+    let status-after· = c .status-after in
+    rw (status-after· .ensures)
+
+pub finish-spec : {M : Type 1} → statement M
+finish-spec = tie.close (tie.spec status-after-requires returns)

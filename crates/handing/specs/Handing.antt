@@ -1,0 +1,26 @@
+-- What feed is lent and hands over, as the rules have it
+use Prim.Native.Nat.{ℕ}
+use mathlib.Core.List.{List}
+use Rattle.rules.specs.declared.Answer.{Answer}
+use Rattle.rules.specs.declared.Session.{Session}
+use Rattle.rules.specs.Step.{State}
+use Rattle.rules.specs.Calls.{Handed}
+use Rattle.handing.specs.declared.Fed.{Fed}
+use Rattle.turns.specs.declared.step.Progress.{Progress}
+
+abbrev pub stateLent : Session → List ℕ → State
+stateLent s st = record { session = s; store = st }
+
+-- With the store and the output that are left
+abbrev pub handedOf : Fed → List ℕ → List ℕ → Handed
+handedOf r st out =
+    record {
+      answer = r .answer;
+      state = stateLent (r .session) st;
+      consumed = r .consumed;
+      written = r .written;
+      output = out;
+    }
+
+abbrev pub fedOf : Answer → Progress → Session → Fed
+fedOf a p s = record { answer = a; consumed = p .at; written = p .written; session = s }

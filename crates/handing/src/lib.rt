@@ -1,0 +1,105 @@
+// Where a reading starts from a session, and what it hands over when it ends.
+use rules::Answer;
+use rules::Bodies;
+use rules::Coding;
+use rules::Command;
+use rules::Drawing;
+use rules::Look;
+use rules::Pen;
+use rules::Session;
+use rules::Status;
+use turns::step::Progress;
+ghost use mathlib.Core.Path.{_≡_};
+ghost use Rattle.figures.specs.Carried.{drawingOf};
+ghost use Rattle.turns.specs.View.{startOf, writtenTo, statusAfter, sessionAfter};
+ghost use Rattle.handing.specs.Handing.{fedOf};
+
+// What a reading hands over, beside the store and the output.
+pub struct Fed {
+    pub answer: Answer,
+    pub consumed: usize,
+    pub written: usize,
+    pub session: Session,
+}
+
+pub fn start(session: Session) -> Progress
+    ensures { λ r. ⌜ r ≡ startOf session ⌝ }
+{
+    let bodies = session.bodies;
+    let coding = session.coding;
+    let sets = coding.sets;
+    let waiting = coding.waiting;
+    Progress {
+        at: 0,
+        written: 0,
+        steps: session.steps,
+        depth: bodies.depth,
+        sets,
+        waiting,
+    }
+}
+
+fn status_after(answer: Answer) -> Status
+    ensures { λ r. ⌜ r ≡ statusAfter answer ⌝ }
+{
+    match answer {
+        Answer::Done => Status::Running,
+        Answer::Full => Status::Running,
+        Answer::Refused(refusal) => Status::Stopped(refusal),
+    }
+}
+
+// What a reading that has ended hands over.
+pub fn finish(
+    answer: Answer,
+    budget: u32,
+    progress: Progress,
+    pen: Pen,
+    command: Command,
+    look: Look,
+    cells: [u8; 8],
+    places: [u8; 8],
+    firsts: [u8; 96],
+    map: [u8; 48],
+) -> Fed
+    ensures { λ r. ⌜ r ≡ fedOf answer progress (sessionAfter answer budget progress cells places firsts (drawingOf pen command look map)) ⌝ }
+{
+    let sets = progress.sets;
+    let waiting = progress.waiting;
+    let status = status_after(answer);
+    let session = Session {
+        budget,
+        steps: progress.steps,
+        status,
+        bodies: Bodies {
+            depth: progress.depth,
+            cells,
+            places,
+        },
+        coding: Coding {
+            sets,
+            waiting,
+            firsts,
+        },
+        drawing: Drawing {
+            pen,
+            command,
+            look,
+            map,
+        },
+    };
+    Fed {
+        answer,
+        consumed: progress.at,
+        written: progress.written,
+        session,
+    }
+}
+
+pub fn with_written(progress: Progress, written: usize) -> Progress
+    ensures { λ r. ⌜ r ≡ writtenTo written progress ⌝ }
+{
+    let mut progress = progress;
+    progress.written = written;
+    progress
+}
