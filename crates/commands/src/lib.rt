@@ -109,7 +109,7 @@ fn after(count: usize, at: usize, pen: Pen, point: Point, command: Command) -> R
     }
 }
 
-// As many bytes as come in whole points, opcodes and recorded controls; the ordinary step does the rest.
+// As many bytes as are whole points, opcodes, recorded controls and dropped data; the ordinary step does the rest.
 pub fn run_commands(
     pen: Pen,
     command: Command,
