@@ -1,4 +1,4 @@
 pub mod TraceLaws
 pub mod PointLaws
 pub mod FinishLaws
-pub mod PdiLaws
+pub mod CommandLaws

@@ -32,7 +32,7 @@ use Rattle.runs.specs.Run.{Run, standing}
 use Rattle.runs.specs.Strokes.{penAfter}
 use Rattle.commands.specs.Tracing.{penAt, isPoint}
 use Rattle.runs.proofs.RunLaws.{each-data, whole-operand}
-use Rattle.commands.proofs.PdiLaws.{Reaches, after-fresh, after-eight, after-at, after-some}
+use Rattle.commands.proofs.CommandLaws.{Reaches, after-fresh, after-eight, after-at, after-some}
 
 -- What a point's operand draws does not depend on the operand that the pen keeps
 pub record Steady (rule : Drawing → Outcome) (p : Point) (c : Command) (l : Look) (m : List ℕ) : Type 0 where

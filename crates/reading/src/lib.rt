@@ -1,8 +1,8 @@
 // A reading of a piece, turn by turn and run by run, as far as the output has room.
-use advance::after_run;
-use advance::run_coded;
-use advance::run_drawn;
-use advance::run_strokes;
+use advance::coded::run_coded;
+use advance::drawn::after_run;
+use advance::drawn::run_drawn;
+use advance::drawn::run_strokes;
 use handing::Fed;
 use handing::finish;
 use handing::start;

@@ -1,7 +1,7 @@
 use mathlib.Core.Path.{sym, _∙_}
 use borrow.Author.Tests.{ltb-true}
 use Rattle.rules.proofs.Bools.{false-true}
-use Rattle.commands.proofs.PdiLaws.{control-asked, opcode-asked}
+use Rattle.commands.proofs.CommandLaws.{control-asked, opcode-asked}
 use borrow.Author.Needs.{needs}
 use Rattle.commands.proofs.opens.Statement.{statement}
 use Rattle.commands.proofs.opens.Tie as tie

@@ -1,7 +1,7 @@
 use native.Mathlib.Omega.{arith}
 use mathlib.Core.Path.{_∙_}
 use borrow.Author.Needs.{needs}
-use Rattle.commands.proofs.PdiLaws.{after-some}
+use Rattle.commands.proofs.CommandLaws.{after-some}
 use Rattle.commands.proofs.pen_after.Statement.{statement}
 use Rattle.commands.proofs.pen_after.Tie as tie
 

@@ -11,7 +11,7 @@ use Rattle.rules.specs.Drawing.{rowOf}
 use Rattle.runs.specs.Run.{standing}
 use Rattle.runs.specs.Strokes.{penAfter}
 use Rattle.commands.specs.Tracing.{Inks}
-use Rattle.commands.proofs.PdiLaws.{after-own, after-moved, Reaches, reaches-none, reaches-opened, reaches-dropped, reaches-end, row-next, multi-range}
+use Rattle.commands.proofs.CommandLaws.{after-own, after-moved, Reaches, reaches-none, reaches-opened, reaches-dropped, reaches-end, row-next, multi-range}
 use Rattle.commands.proofs.PointLaws.{reaches-point}
 use Rattle.commands.proofs.run_commands.Statement.{statement}
 use Rattle.commands.proofs.run_commands.Tie as tie

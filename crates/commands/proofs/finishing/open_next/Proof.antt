@@ -4,7 +4,7 @@ use mathlib.Core.Path.{sym, ap, _∙_}
 use Rattle.rules.specs.declared.Command.{Command}
 use Rattle.rules.specs.Drawing.{rowOf}
 use Rattle.commands.proofs.FinishLaws.{closed, next-control, next-marked, next-plain}
-use Rattle.commands.proofs.PdiLaws.{row-control}
+use Rattle.commands.proofs.CommandLaws.{row-control}
 use Rattle.commands.proofs.finishing.open_next.Statement.{statement}
 use Rattle.commands.proofs.finishing.open_next.Tie as tie
 
