@@ -21,12 +21,11 @@ use rules::Set;
 use rules::Sets;
 use rules::Status;
 use rules::Waiting;
+use verdict::STORE_SIZE;
 ghost use mathlib.Core.Path.{_≡_};
 ghost use Rattle.rules.specs.Drawing.{freshDrawing};
 ghost use Rattle.rules.specs.Calls.{freshSession, openPage};
 ghost use Rattle.reader.specs.Answers.{openingOf};
-
-const STORE_SIZE: usize = 8192;
 
 const ORIGIN: Point = Point { x: 0, y: 0 };
 
