@@ -39,10 +39,10 @@ fn after_coding(
     Progress {
         at: progress.at + count,
         written: progress.written,
-        steps: progress.steps + (count as u32),
-        depth,
         sets,
         waiting,
+        steps: progress.steps + (count as u32),
+        depth,
     }
 }
 

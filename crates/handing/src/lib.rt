@@ -32,10 +32,10 @@ pub fn start(session: Session) -> Progress
     Progress {
         at: 0,
         written: 0,
-        steps: session.steps,
-        depth: bodies.depth,
         sets,
         waiting,
+        steps: session.steps,
+        depth: bodies.depth,
     }
 }
 

@@ -37,10 +37,10 @@ ghost use Rattle.turns.specs.View.{stateAt, stepsTo, leftOf, Due, Ready,
 pub struct Progress {
     pub at: usize,
     pub written: usize,
-    pub steps: u32,
-    pub depth: u8,
     pub sets: Sets,
     pub waiting: Waiting,
+    pub steps: u32,
+    pub depth: u8,
 }
 
 // Where reading goes on once a byte is read: in the piece, and in the innermost body.
@@ -85,10 +85,10 @@ fn counted(progress: Progress, at: usize, depth: u8, reacted: Reacted) -> Progre
     Progress {
         at,
         written: progress.written,
-        steps: progress.steps + 1,
-        depth,
         sets,
         waiting,
+        steps: progress.steps + 1,
+        depth,
     }
 }
 

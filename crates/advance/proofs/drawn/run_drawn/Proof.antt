@@ -29,7 +29,7 @@ returns c =
     let command = ap (λ (r : Ran). r .command) e in
     let count = ap (λ (r : Ran). r .count) e in (
       λ firsts map. none-walk (args· .budget) (args· .progress) (now (args· .cells)) (now (args· .places)) firsts (args· .pen) (args· .command) (args· .look) map (now (args· .store)) (now (args· .piece)) (now (args· .out)) _ _ _ _ count at pen command,
-      (none-most _ (args· .budget) (args· .progress) (now (args· .piece)) count (pre· .0 .on) (omega (arith, good· .0 .1 .1 .1 .1 .0)), λ _. (at, pen, command)),
+      (none-most _ (args· .budget) (args· .progress) (now (args· .piece)) count (pre· .0 .on) (omega (arith, good· .0 .1 .1 .1 .1 .1 .1 .0)), λ _. (at, pen, command)),
     )
 
 bytes-next-requires : tie.Need-bytes-next-requires
@@ -61,7 +61,7 @@ returns-2 c =
     let command = ap (λ (r : Ran). r .command) e in
     let count = ap (λ (r : Ran). r .count) e in (
       λ firsts map. none-walk (args· .budget) (args· .progress) (now (args· .cells)) (now (args· .places)) firsts (args· .pen) (args· .command) (args· .look) map (now (args· .store)) (now (args· .piece)) (now (args· .out)) _ _ _ _ count at pen command,
-      (none-most _ (args· .budget) (args· .progress) (now (args· .piece)) count (pre· .0 .on) (omega (arith, good· .0 .1 .1 .1 .1 .0)), λ _. (at, pen, command)),
+      (none-most _ (args· .budget) (args· .progress) (now (args· .piece)) count (pre· .0 .on) (omega (arith, good· .0 .1 .1 .1 .1 .1 .1 .0)), λ _. (at, pen, command)),
     )
 
 set-read-requires : tie.Need-set-read-requires
@@ -102,7 +102,7 @@ returns-3 c =
           (set-read· .result) _ (draw-set· .result .count) (draw-set· .result .at) (draw-set· .result .pen) (draw-set· .result .command) (draw-set· .last .1 .1 .1 .1 .1 .1 .1 .0) (bytes-next· .result .from) (bytes-next· .result .to)
           waits (set-read· .ensures) (source-of· .ensures) (draw-set· .ensures .0 map) (draw-set· .ensures .1) (bytes-next· .ensures .1) (bytes-next· .ensures .0) _ (read-past· .ensures),
       (
-        run-most (draw-set· .result .count) (args· .budget) (args· .progress) (bytes-next· .ensures .0) (draw-set· .ensures .1) (bytes-next· .ensures .1) (pre· .0 .on) (omega (arith, fits· .budget)) (omega (arith, good· .0 .1 .1 .1 .1 .0)),
+        run-most (draw-set· .result .count) (args· .budget) (args· .progress) (bytes-next· .ensures .0) (draw-set· .ensures .1) (bytes-next· .ensures .1) (pre· .0 .on) (omega (arith, fits· .budget)) (omega (arith, good· .0 .1 .1 .1 .1 .1 .1 .0)),
         run-still (draw-set· .ensures .0 []),
       ),
     )

@@ -29,7 +29,7 @@ returns c =
     let at = ap (λ (r : Lined). r .at) e in
     let count = ap (λ (r : Lined). r .count) e in (
       λ firsts map. none-walk (args· .budget) (args· .progress) (now (args· .cells)) (now (args· .places)) firsts (args· .pen) (args· .command) (args· .look) map (now (args· .store)) (now (args· .piece)) (now (args· .out)) _ _ _ _ count at (pen-none (args· .pen) _ _ count) refl,
-      (none-most _ (args· .budget) (args· .progress) (now (args· .piece)) count (pre· .on) (omega (arith, good· .0 .1 .1 .1 .1 .0)), λ _. at),
+      (none-most _ (args· .budget) (args· .progress) (now (args· .piece)) count (pre· .on) (omega (arith, good· .0 .1 .1 .1 .1 .1 .1 .0)), λ _. at),
     )
 
 bytes-next-requires : tie.Need-bytes-next-requires
@@ -59,7 +59,7 @@ returns-2 c =
     let at = ap (λ (r : Lined). r .at) e in
     let count = ap (λ (r : Lined). r .count) e in (
       λ firsts map. none-walk (args· .budget) (args· .progress) (now (args· .cells)) (now (args· .places)) firsts (args· .pen) (args· .command) (args· .look) map (now (args· .store)) (now (args· .piece)) (now (args· .out)) _ _ _ _ count at (pen-none (args· .pen) _ _ count) refl,
-      (none-most _ (args· .budget) (args· .progress) (now (args· .piece)) count (pre· .on) (omega (arith, good· .0 .1 .1 .1 .1 .0)), λ _. at),
+      (none-most _ (args· .budget) (args· .progress) (now (args· .piece)) count (pre· .on) (omega (arith, good· .0 .1 .1 .1 .1 .1 .1 .0)), λ _. at),
     )
 
 run-strokes-requires : tie.Need-run-strokes-requires
@@ -96,7 +96,7 @@ returns-3 c =
           Pdi _ (run-strokes· .result .count) (run-strokes· .result .at) (penAfter (run-strokes· .result .count) (args· .pen) (run-strokes· .result .point)) (args· .command) (run-strokes· .last .1 .1 .1 .1 .1 .1 .0) (bytes-next· .result .from) (bytes-next· .result .to)
           (drawn .0) (sym (drawn .1)) (source-of· .ensures) (run-strokes· .ensures .0 map) (run-strokes· .ensures .1) (bytes-next· .ensures .1) (bytes-next· .ensures .0) _ (read-past· .ensures),
       (
-        run-most (run-strokes· .result .count) (args· .budget) (args· .progress) (bytes-next· .ensures .0) (run-strokes· .ensures .1) (bytes-next· .ensures .1) (pre· .on) (omega (arith, fits· .budget)) (omega (arith, good· .0 .1 .1 .1 .1 .0)),
+        run-most (run-strokes· .result .count) (args· .budget) (args· .progress) (bytes-next· .ensures .0) (run-strokes· .ensures .1) (bytes-next· .ensures .1) (pre· .on) (omega (arith, fits· .budget)) (omega (arith, good· .0 .1 .1 .1 .1 .1 .1 .0)),
         λ e. run-still (run-strokes· .ensures .0 []) e .0,
       ),
     )
