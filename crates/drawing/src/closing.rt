@@ -1,6 +1,6 @@
 // Closing: a begun operand is completed and applied, then the command finishes by the operand that is due.
 use crate::operands::apply_begun;
-use crate::operands::rested;
+use crate::operands::resting;
 use crate::operands::role_due;
 use figures::Drawn;
 use figures::answers::ORIGIN;
@@ -120,5 +120,5 @@ pub fn close(
         out,
         done.at,
     );
-    no_record(rested(done.pen), opened(0, ORIGIN), done.look, done.at)
+    no_record(resting(done.pen.point), opened(0, ORIGIN), done.look, done.at)
 }

@@ -6,6 +6,7 @@ use rules::Command;
 use rules::Look;
 use rules::Operand;
 use rules::Pen;
+use rules::Point;
 use rules::Role;
 use rules::Row;
 use tables::opcodes::due_after;
@@ -18,11 +19,10 @@ ghost use lib.ListN.{length, set};
 ghost use Rattle.rules.specs.Drawing.{roleOf, dueAfter, withDue, noOperand, Draw, nextOperand, applyBegun, dataByte};
 ghost use Rattle.figures.specs.Carried.{carryOut, drawingOf, carriedOf, ChangesBy};
 
-// The drawing point kept, no operand begun.
-pub fn rested(pen: Pen) -> Pen
-    ensures { λ r. ⌜ r ≡ record { point = pen .point; operand = noOperand } ⌝ }
+// A pen with no operand begun.
+pub fn resting(point: Point) -> Pen
+    ensures { λ r. ⌜ r ≡ record { point = point; operand = noOperand } ⌝ }
 {
-    let point = pen.point;
     let operand = Operand {
         bytes: [0; 8],
         count: 0,
@@ -62,7 +62,7 @@ pub fn with_due(row: Row, command: Command) -> Command
 fn next_operand(row: Row, pen: Pen, command: Command, look: Look, at: usize) -> Drawn
     ensures { λ r. ⌜ ChangesBy (λ d. Draw (nextOperand (row .pattern) d) []) pen command look at r ⌝ }
 {
-    no_record(rested(pen), with_due(row, command), look, at)
+    no_record(resting(pen.point), with_due(row, command), look, at)
 }
 
 // Applies the operand that is begun.

@@ -4,12 +4,8 @@ pub mod text;
 
 use records::ROOM_FOR_STEP;
 use rules::Command;
-use rules::Operand;
 use rules::Pen;
-use rules::Point;
-ghost use mathlib.Core.Path.{_≡_};
 ghost use Prim.Native.Nat.{ℕ, _+_, _*_, _<_, _≤_};
-ghost use Rattle.rules.specs.Drawing.{noOperand};
 ghost use Rattle.rules.specs.Reading.{roomForStep};
 
 // How many bytes a run took, the place after their records, and what they left.
@@ -32,15 +28,4 @@ pub fn most_steps(left: usize, room: usize) -> usize
         return left;
     }
     places
-}
-
-// A pen with no operand begun.
-pub fn resting(point: Point) -> Pen
-    ensures { λ r. ⌜ r ≡ record { point = point; operand = noOperand } ⌝ }
-{
-    let operand = Operand {
-        bytes: [0; 8],
-        count: 0,
-    };
-    Pen { point, operand }
 }

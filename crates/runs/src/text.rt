@@ -2,7 +2,7 @@
 use crate::Ran;
 use crate::most_steps;
 use drawing::closing::opened;
-use drawing::operands::rested;
+use drawing::operands::resting;
 use figures::answers::ORIGIN;
 use records::head_of;
 use records::put_words;
@@ -106,7 +106,7 @@ pub fn run_text(
     Ran {
         count,
         at: at + 40 * count,
-        pen: rested(pen),
+        pen: resting(pen.point),
         command: opened(0, ORIGIN),
     }
 }

@@ -28,8 +28,8 @@ finish-requires c κs =
     let complete· = c .before .before .before .before .before .complete in
     omega (arith, pre·, complete-place _ _ _ _ _ (complete· .ensures))
 
-rested-requires : tie.Need-rested-requires
-rested-requires c κs = search needs
+resting-requires : tie.Need-resting-requires
+resting-requires c κs = search needs
 
 opened-requires : tie.Need-opened-requires
 opened-requires c κs = search needs
@@ -47,14 +47,14 @@ returns-2 : tie.Need-returns-2
 unfolding carry
 returns-2 c =
     let no-record· = c .no-record in
-    let rested· = c .before .before .rested in
+    let resting· = c .before .before .resting in
     let opened· = c .before .opened in
     let pre· = c .before .before .before .before .before .before .before .before .before .before .before .before .before .before .before .pre in
     let complete· = c .before .before .before .before .before .before .before .before .before .before .before .complete in
     let if1· = c .before .before .before .before .before .before .before .before .if1 in
     let role-due· = c .before .before .before .before .before .before .before .role-due in
     let finish· = c .before .before .before .before .before .finish in
-    (no-record· .ensures _ _ ∙ simp (rested· .ensures, opened· .ensures)) ∙ close-drawn _ _ _ _ _ (pre· .0) (complete· .ensures) _ _ (omega (arith, pre·)) (if1· .left) (role-due· .ensures) (finish· .ensures _)
+    (no-record· .ensures _ _ ∙ simp (resting· .ensures, opened· .ensures)) ∙ close-drawn _ _ _ _ _ (pre· .0) (complete· .ensures) _ _ (omega (arith, pre·)) (if1· .left) (role-due· .ensures) (finish· .ensures _)
 
 pub close-spec : {M : Type 1} → statement M
 close-spec =
@@ -65,7 +65,7 @@ close-spec =
     returns
     role-due-requires
     finish-requires
-    rested-requires
+    resting-requires
     opened-requires
     no-record-requires
     same-length-2

@@ -4,8 +4,8 @@ use borrow.Author.Needs.{needs}
 use Rattle.drawing.proofs.operands.next_operand.Statement.{statement}
 use Rattle.drawing.proofs.operands.next_operand.Tie as tie
 
-rested-requires : tie.Need-rested-requires
-rested-requires c κs = search needs
+resting-requires : tie.Need-resting-requires
+resting-requires c κs = search needs
 
 with-due-requires : tie.Need-with-due-requires
 with-due-requires c κs = search needs
@@ -17,10 +17,10 @@ returns : tie.Need-returns
 unfolding carry
 returns c =
     let no-record· = c .no-record in
-    let rested· = c .before .before .rested in
+    let resting· = c .before .before .resting in
     let with-due· = c .before .with-due in
-    λ out m. no-record· .ensures out m ∙ simp (rested· .ensures, with-due· .ensures)
+    λ out m. no-record· .ensures out m ∙ simp (resting· .ensures, with-due· .ensures)
 
 pub next-operand-spec : {M : Type 1} → statement M
 next-operand-spec =
-    tie.close (tie.spec rested-requires with-due-requires no-record-requires returns)
+    tie.close (tie.spec resting-requires with-due-requires no-record-requires returns)

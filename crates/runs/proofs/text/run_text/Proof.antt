@@ -51,8 +51,8 @@ add-t13 c =
     let g = most-steps· .ensures .1 (put-characters· .result - 1) (omega (arith, put-characters· .ensures .1, if1· .left)) in
     omega (arith, g, if1· .left, good·)
 
-rested-requires : tie.Need-rested-requires
-rested-requires c κs = search needs
+resting-requires : tie.Need-resting-requires
+resting-requires c κs = search needs
 
 opened-requires : tie.Need-opened-requires
 opened-requires c κs = search needs
@@ -64,11 +64,11 @@ returns-2 : tie.Need-returns-2
 returns-2 c =
     let args· = c .before .before .before .before .before .before .before .before .before .before .args in
     let if1· = c .before .before .if1 in
-    let rested· = c .before .rested in
+    let resting· = c .before .resting in
     let opened· = c .opened in
     let put-characters· = c .before .before .before .before .before .put-characters in
     let most-steps· = c .before .before .before .before .before .before .before .most-steps in
-    (λ m. ran-some {y = standing (args· .pen) (args· .command) (args· .look) m (args· .at) (now (args· .out))} _ _ (args· .command) _ m _ _ (if1· .left) (rested· .ensures) (opened· .ensures) (put-characters· .ensures .0 m), omega (arith, most-steps· .ensures .0, put-characters· .ensures .1))
+    (λ m. ran-some {y = standing (args· .pen) (args· .command) (args· .look) m (args· .at) (now (args· .out))} _ _ (args· .command) _ m _ _ (if1· .left) (resting· .ensures) (opened· .ensures) (put-characters· .ensures .0 m), omega (arith, most-steps· .ensures .0, put-characters· .ensures .1))
 
 pub run-text-spec : {M : Type 1} → statement M
 run-text-spec =
@@ -82,7 +82,7 @@ run-text-spec =
     returns
     mul-t12
     add-t13
-    rested-requires
+    resting-requires
     opened-requires
     same-length-2
     returns-2)
