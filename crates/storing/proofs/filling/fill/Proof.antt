@@ -23,8 +23,7 @@ loop-holds c =
     (search needs, pre· .0, none)
 
 add-store-run : tie.Need-add-store-run Inv-loop μ-loop
-add-store-run c =
-    search needs
+add-store-run c = search needs
 
 store-run-requires : tie.Need-store-run-requires Inv-loop μ-loop
 store-run-requires c κs =
@@ -44,12 +43,10 @@ add-stores-at c =
     omega (arith, store-run· .ensures .1, fits· .to)
 
 stores-at-requires : tie.Need-stores-at-requires Inv-loop μ-loop
-stores-at-requires c κs =
-    search needs
+stores-at-requires c κs = search needs
 
 same-length : tie.Need-same-length Inv-loop μ-loop
-same-length c =
-    search needs
+same-length c = search needs
 
 returns : tie.Need-returns Inv-loop μ-loop
 returns c =
@@ -58,8 +55,7 @@ returns c =
     (stores-join _ _ _ _ _ _ (loop· .inv .2) (store-run· .ensures .0 _ _), omega (arith, store-run· .ensures .1))
 
 add-byte : tie.Need-add-byte Inv-loop μ-loop
-add-byte c =
-    search needs
+add-byte c = search needs
 
 shared-slice-read-byte : tie.Need-shared-slice-read-byte Inv-loop μ-loop
 shared-slice-read-byte c =
@@ -73,12 +69,10 @@ store-byte-requires c κs =
     (search needs, pre· .1)
 
 enum-told : tie.Need-enum-told Inv-loop μ-loop
-enum-told c =
-    search needs
+enum-told c = search needs
 
 same-length-2 : tie.Need-same-length-2 Inv-loop μ-loop
-same-length-2 c =
-    search needs
+same-length-2 c = search needs
 
 returns-2 : tie.Need-returns-2 Inv-loop μ-loop
 returns-2 c =
@@ -91,8 +85,7 @@ returns-2 c =
     (rw (same-firsts, same-store) (stores-join _ _ _ _ _ _ (loop· .inv .2) (store-run· .ensures .0 _ _)), omega (arith, store-run· .ensures .1))
 
 enum-known-longer : tie.Need-enum-known-longer Inv-loop μ-loop
-enum-known-longer c =
-    search needs
+enum-known-longer c = search needs
 
 add-count-2 : tie.Need-add-count-2 Inv-loop μ-loop
 add-count-2 c =
