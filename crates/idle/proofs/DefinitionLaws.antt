@@ -1,7 +1,6 @@
 -- Runs of the bytes that open and end a definition.
 -- Assumes nothing.
 use mathlib.Core.Path.{_≡_, refl, ap, _∙_}
-use mathlib.Core.Bool.{true}
 use mathlib.Core.List.{List}
 use Prim.Native.Nat.{ℕ, _+_}
 use native.Mathlib.Omega.{arith}
@@ -13,7 +12,7 @@ use Rattle.rules.specs.declared.Sets.{Sets}
 use Rattle.rules.specs.declared.Waiting.{Waiting}
 use Rattle.rules.specs.declared.Waiting.the-variants.{Nothing, Escape, Name, Body, BodyEscape}
 use Rattle.rules.specs.Coding.{React, inBody, innerOf, inBodyEscape, finalOf, escape, controls, control, classOf, reactTo, react}
-use Rattle.idle.specs.Idle.{Coded, coded, Idle, none}
+use Rattle.idle.specs.Idle.{coded, Idle, none}
 use Rattle.idle.specs.declared.definitions.Defined.{Defined}
 use Rattle.coding.specs.View.{codingOf}
 use Rattle.idle.proofs.IdleLaws.{idle-on}
@@ -37,7 +36,7 @@ module _ (s : Sets) (f st : List ℕ) where
     unfolding react reactTo innerOf inBodyEscape
     ends = refl
 
--- Two idle bytes, and those two
+-- Two idle bytes: ESC 4/0 and ESC 4/5 among them
 module _ (bytes : List ℕ) (from : ℕ) where
   two-idle : (c c₁ c₂ : Coding) (st : List ℕ) (a b : ℕ) → getD bytes from 0 ≡ a → getD bytes (from + 1) 0 ≡ b
       → react c st a ≡ React c₁ st Idle·action → react c₁ st b ≡ React c₂ st Idle·action → Idle bytes from (coded c st) 2 (coded c₂ st)

@@ -46,7 +46,7 @@ module _ (bytes : List ℕ) (from : ℕ) {x : Coded} (n : ℕ) where
       let j : from + (n + m) ≡ from + n + m = omega arith in
       rw k (more (idle-join m y v d e) (ap (λ (i : ℕ). react (v .coding) (v .store) (getD bytes i 0)) j ∙ q))
 
--- What is waited for stays in range, and no byte changes nothing
+-- What is waited for stays in range; a run of no byte changes nothing
 module _ (bytes : List ℕ) (from : ℕ) (x : Coded) where
   pub idle-fits : (n : ℕ) (y : Coded) → Idle bytes from x n y → waitingFits (x .coding .waiting) ≡ true → waitingFits (y .coding .waiting) ≡ true
   idle-fits zero y none k = k
