@@ -4,7 +4,7 @@ use mathlib.Core.Path.{_≡_, refl, sym, ap, _∙_}
 use mathlib.Core.Bool.{true, false}
 use mathlib.Core.List.{List, [], _∷_}
 use mathlib.Core.Logic.{_⊎_, inl, inr}
-use Prim.Native.Nat.{ℕ, zero, suc, _+_}
+use Prim.Native.Nat.{ℕ, zero, suc, _+_, _≤_}
 use native.Mathlib.Numerals.{add-one}
 use native.Mathlib.Omega.{arith}
 use borrow.Author.Tests.{le-ltb, ne-eqb}
@@ -17,7 +17,6 @@ use Rattle.rules.proofs.CodingRanges.{ReactionFits, react-fits}
 use Rattle.rules.specs.declared.Action.{Action}
 use Rattle.rules.specs.declared.Action.the-variants.{Idle as Idle·action, Close, Control, Character, Opcode, Data}
 use Rattle.rules.specs.declared.Coding.{Coding}
-use Rattle.rules.specs.declared.Definition.{Definition}
 use Rattle.rules.specs.declared.Sets.{Sets}
 use Rattle.rules.specs.declared.Waiting.{Waiting}
 use Rattle.rules.specs.declared.Waiting.the-variants.{Body}
@@ -25,7 +24,6 @@ use Rattle.rules.specs.Coding.{React, keep, inBody, reactTo, react}
 use Rattle.rules.specs.Ranges.{waitingFits}
 use Rattle.rules.specs.Store.{Filling, Stored, storeByte}
 use Rattle.macros.specs.Runs.{Plain, Stores, none as stored-none, more as stored-more}
-use Rattle.storing.specs.Storing.{fillingOf}
 use Rattle.idle.specs.Idle.{Coded, coded, Idle, none, more, idleAction, idleEffect}
 use Rattle.coding.specs.View.{codingOf, effectOn, reactionOf, KeptBy, Kept}
 use Rattle.coding.specs.declared.reactions.Effect.{Effect}
@@ -48,6 +46,25 @@ module _ (bytes : List ℕ) (from : ℕ) {x : Coded} (n : ℕ) where
       let j : from + (n + m) ≡ from + n + m = omega arith in
       rw k (more (idle-join m y v d e) (ap (λ (i : ℕ). react (v .coding) (v .store) (getD bytes i 0)) j ∙ q))
 
+-- What is waited for stays in range; a run of no byte changes nothing
+module _ (bytes : List ℕ) (from : ℕ) (x : Coded) where
+  pub idle-fits : (n : ℕ) (y : Coded) → Idle bytes from x n y → waitingFits (x .coding .waiting) ≡ true → waitingFits (y .coding .waiting) ≡ true
+  idle-fits zero y none k = k
+  idle-fits (suc n) y (more {y = v} {c = c} {st = st} d e) k =
+      let fits : ReactionFits (v .store) (React c st Idle·action) = rw e at (react-fits (v .coding) (v .store) (getD bytes (from + n) 0) (idle-fits n v d k)) in
+      fits .2
+
+  idle-none : (n : ℕ) (y : Coded) → n ≤ 0 → Idle bytes from x n y → y ≡ x
+  idle-none zero y h none = refl
+  idle-none (suc n) y h (more d e) = absurd (omega arith)
+
+pub idle-still : (bytes : List ℕ) (from at n m : ℕ) (x : Coded) (s : Sets) (w w₁ : Waiting) (f f₁ st st₁ : List ℕ) → m ≤ 0
+    → Idle bytes at (coded (codingOf s w f) st) m (coded (codingOf s w₁ f₁) st₁)
+    → Idle bytes from x n (coded (codingOf s w f) st) → Idle bytes from x n (coded (codingOf s w f₁) st₁)
+idle-still bytes from at n m x s w w₁ f f₁ st st₁ h d r =
+    let e = idle-none bytes at (coded (codingOf s w f) st) m (coded (codingOf s w₁ f₁) st₁) h d in
+    rw (ap (λ (y : Coded). y .coding .firsts) e, ap (λ (y : Coded). y .store) e) r
+
 -- A run of bytes that a definition stores
 module _ (s : Sets) where
   abbrev within : Filling → Coded
@@ -58,14 +75,9 @@ module _ (s : Sets) where
   unfolding react reactTo inBody keep
   body-idle f g b p e = rw (le-ltb 127 b (p .0), ne-eqb b 27 (p .1), e)
 
-  stores-idle : (bytes : List ℕ) (from n : ℕ) (f g : Filling) → Stores bytes from f n g → Idle bytes from (within f) n (within g)
+  pub stores-idle : (bytes : List ℕ) (from n : ℕ) (f g : Filling) → Stores bytes from f n g → Idle bytes from (within f) n (within g)
   stores-idle bytes from zero f g stored-none = none
   stores-idle bytes from (suc n) f g (stored-more {g = h} d p e) = more (stores-idle bytes from n f h d) (body-idle h g (getD bytes (from + n) 0) p e)
-
-pub body-runs : (bytes : List ℕ) (from n : ℕ) (w : Waiting) (d : Definition) (st st₁ : List ℕ) → w ≡ Body d
-    → ((name : ℕ) (f : List ℕ) → Stores bytes from (fillingOf (record { name = name; last = d .last }) f st) n (fillingOf (record { name = name; last = d .last }) f st₁))
-    → (s : Sets) (f : List ℕ) → Idle bytes from (coded (codingOf s w f) st) n (coded (codingOf s w f) st₁)
-body-runs bytes from n w d st st₁ e r s f = rw e (stores-idle s bytes from n (fillingOf d f st) (fillingOf d f st₁) (r (d .name) f))
 
 -- Which actions and effects are idle
 abbrev not-idle : List ℕ
@@ -99,11 +111,6 @@ idle-effect (Acts a) c st h = ap (React c st) (idle-action a h)
 module _ (s : Sets) (w : Waiting) (f st : List ℕ) (b : ℕ) (r : Reacted) (f₁ st₁ : List ℕ) (e : reactionOf r f₁ st₁ ≡ react (codingOf s w f) st b) where
   pub idle-reacts : idleEffect (r .effect) ≡ true → react (codingOf s w f) st b ≡ React (codingOf (r .sets) (r .waiting) f₁) st₁ Idle·action
   idle-reacts h = sym e ∙ idle-effect (r .effect) (codingOf (r .sets) (r .waiting) f₁) st₁ h
-
-  pub idle-fits : idleEffect (r .effect) ≡ true → waitingFits w ≡ true → waitingFits (r .waiting) ≡ true
-  idle-fits h k =
-      let fits : ReactionFits st (React (codingOf (r .sets) (r .waiting) f₁) st₁ Idle·action) = rw (idle-reacts h) at (react-fits (codingOf s w f) st b k) in
-      fits .2
 
   pub busy-keeps : idleEffect (r .effect) ≡ false → (Kept r f f₁) × (Kept r st st₁) → (f₁ ≡ f) × (st₁ ≡ st)
   unfolding idleEffect idleAction

@@ -1,1 +1,2 @@
 pub mod IdleLaws
+pub mod DefinitionLaws

@@ -1,15 +1,16 @@
 // Runs of idle bytes: those that ask nothing of drawing and call no macro, many in one call.
+pub mod definitions;
+
+use crate::definitions::run_definition;
 use coding::react;
 use coding::reactions::Effect;
 use rules::Action;
 use rules::Sets;
 use rules::Waiting;
-use storing::filling::store_run;
 ghost use lib.ListN.{length};
 ghost use mathlib.Core.Bool.{true};
-ghost use mathlib.Core.List.{List};
 ghost use mathlib.Core.Path.{_≡_};
-ghost use Prim.Native.Nat.{ℕ, _+_, _<_, _≤_};
+ghost use Prim.Native.Nat.{_+_, _<_, _≤_};
 ghost use Rattle.rules.specs.Ranges.{waitingFits};
 ghost use Rattle.macros.specs.Lent.{Sized};
 ghost use Rattle.idle.specs.Idle.{Idle, coded, idleEffect};
@@ -55,21 +56,6 @@ fn may_be_idle(waiting: Waiting, bytes: &[u8], at: usize, to: usize) -> bool
     !is_graphic(waiting, bytes[at])
 }
 
-// The bytes of a definition that go into its last cell.
-fn run_body(waiting: Waiting, store: &mut [u8], bytes: &[u8], from: usize, to: usize) -> usize
-    requires { ⌜ (Sized (now store)) × (from ≤ to) × (to ≤ length (now bytes)) ⌝ }
-    ensures ran { λ r. ⌜ ((s : Sets) (f : List ℕ) → Idle (now (bytes .entry)) from (coded (codingOf s waiting f) (now (store .entry))) r (coded (codingOf s waiting f) (now (store .exit)))) ⌝ }
-    ensures most { λ r. ⌜ from + r ≤ to ⌝ }
-{
-    if let Waiting::Body(definition) = waiting {
-        if definition.last == 0 {
-            return 0;
-        }
-        return store_run(store, definition.last, bytes, from, to);
-    }
-    0
-}
-
 // Reads idle bytes, up to one that is not. It may stop earlier.
 pub fn run_idle(
     sets: Sets,
@@ -88,7 +74,12 @@ pub fn run_idle(
     let mut waiting = waiting;
     let mut count: usize = 0;
     loop {
-        count += run_body(waiting, store, bytes, from + count, to);
+        let defined = run_definition(waiting, firsts, store, bytes, from + count, to);
+        if 0 < defined.count {
+            count += defined.count;
+            waiting = defined.waiting;
+            continue;
+        }
         if !may_be_idle(waiting, bytes, from + count, to) {
             return Idled {
                 count,

@@ -1,4 +1,4 @@
--- Runs: consecutive bytes of a definition that go into the last cell of its chain
+-- Runs: consecutive bytes of a definition
 use Prim.Native.Nat.{ℕ, zero, suc, _+_, _≤_}
 use mathlib.Core.List.{List}
 use mathlib.Core.Path.{_≡_}

@@ -11,7 +11,7 @@ const CELL_SIZE: usize = 32;
 
 pub const MOST_BYTES: u8 = 30;
 
-const ESC: u8 = 27;
+pub const ESC: u8 = 27;
 
 // The next cell, 0 at the end of a chain. Of cell 0: the front of the free chain.
 pub fn next_of(store: &[u8], cell: u8) -> u8

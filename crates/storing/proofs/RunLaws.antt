@@ -1,9 +1,10 @@
--- Laws of runs: bytes laid into a cell whose count is then set are bytes stored one after the other.
+-- Laws of runs: bytes laid into a cell whose count is then set are bytes stored one after the other, and runs are joined.
 -- Assumes nothing.
 use mathlib.Core.Path.{_≡_, refl, ap, _∙_}
 use mathlib.Core.Bool.{true}
 use mathlib.Core.List.{List, [], _∷_}
 use Prim.Native.Nat.{ℕ, zero, suc, _+_, _*_, _<_, _≤_}
+use native.Mathlib.Numerals.{add-one}
 use native.Mathlib.Omega.{arith}
 use lib.ListN.{length, getD, set}
 use lib.Seq.{set-getD}
@@ -73,3 +74,18 @@ module _ (bytes : List ℕ) (from last name : ℕ) (firsts st : List ℕ) where
         → Laid bytes from last count st n st₁ → st₂ ≡ setCount st₁ last (count + n) → Stores bytes from (within st) n (within st₂)
     run-stored count n st₁ st₂ ec good hi l e =
         rw (e, ec) (laid-stores n st₁ (good-least (countOf st last) (rw ec at good)) (rw ec at hi) (rw ec at l))
+
+-- A run goes on by a byte, and by a run
+module _ (bytes : List ℕ) (from : ℕ) {f : Filling} (n : ℕ) where
+  pub stores-on : (g h : Filling) → Stores bytes from f n g → Plain (getD bytes (from + n) 0) → storeByte g (getD bytes (from + n) 0) ≡ Stored h
+      → Stores bytes from f (n + 1) h
+  stores-on g h d p e = rw add-one (more d p e)
+
+  pub stores-join : (m : ℕ) (g h : Filling) → Stores bytes from f n g → Stores bytes (from + n) g m h → Stores bytes from f (n + m) h
+  stores-join zero g h d none =
+      let k : n + 0 ≡ n = omega arith in
+      rw k d
+  stores-join (suc m) g h d (more {g = v} e p q) =
+      let k : n + suc m ≡ suc (n + m) = omega arith in
+      let j : from + n + m ≡ from + (n + m) = omega arith in
+      rw k (more (stores-join m g v d e) (rw j at p) (rw j at q))

@@ -1,6 +1,6 @@
 -- Laws of storing a byte: the rule by its cases, and from what the calls hand back.
 -- Assumes nothing.
-use mathlib.Core.Path.{_≡_}
+use mathlib.Core.Path.{_≡_, sym, ap, _∙_}
 use mathlib.Core.Bool.{true, false}
 use mathlib.Core.List.{List}
 use Prim.Native.Nat.{ℕ, _+_, _<_, _≤_}
@@ -8,12 +8,13 @@ use native.Mathlib.Numerals.{add-one}
 use borrow.Author.Tests.{eq-eqb, ne-eqb, lt-ltb, le-ltb}
 use lib.Dec.{eqb}
 use Rattle.rules.specs.declared.Definition.{Definition}
+use Rattle.rules.specs.declared.Refusal.{Refusal}
 use Rattle.rules.specs.declared.Refusal.the-variants.{StoreFull, OutOfRange}
 use Rattle.rules.specs.Store.{nextOf, setNext, countOf, setCount, goodCount, setBodyByte, setFirst, Filling, NotStored, Stored, takeCell, linkCell, storeInNew, storeInLast, storeByte}
 use Rattle.rules.proofs.CodingRanges.{StoringKeeps, store-keeps}
-use Rattle.storing.specs.Storing.{fillingOf, storingOf}
+use Rattle.storing.specs.Storing.{fillingOf, storingOf, KeptIfRefused}
 use Rattle.storing.specs.declared.definitions.StoreAnswer.{StoreAnswer}
-use Rattle.storing.specs.declared.definitions.StoreAnswer.the-variants.{Done}
+use Rattle.storing.specs.declared.definitions.StoreAnswer.the-variants.{Done, Refused}
 
 -- The count of the last cell, and the front of the free chain
 abbrev pub held : Filling → ℕ
@@ -75,8 +76,18 @@ module _ (d : Definition) (firsts st : List ℕ) where
   unfolding storeInLast
   in-stored n b st₁ st₂ e₁ e₂ = simp (e₂, e₁, add-one)
 
--- The name of a definition stays
-pub same-name : (f : Filling) (b : ℕ) (a : StoreAnswer) (firsts st : List ℕ) (d : Definition) → storingOf a firsts st ≡ storeByte f b → a ≡ Done d → d .name ≡ f .definition .name
-same-name f b a firsts st d e done =
-    let kept : StoringKeeps f (storingOf (Done d) firsts st) = rw (← e, done) at (store-keeps f b) in
-    kept .1
+-- From an answer: where the byte is stored the name of the definition stays, where it is refused all stays
+module _ (f : Filling) (b : ℕ) (a : StoreAnswer) (firsts st : List ℕ) (d : Definition) (e : storingOf a firsts st ≡ storeByte f b) (done : a ≡ Done d) where
+  pub same-name : d .name ≡ f .definition .name
+  same-name =
+      let kept : StoringKeeps f (storingOf (Done d) firsts st) = rw (← e, done) at (store-keeps f b) in
+      kept .1
+
+  pub byte-stored : storeByte f b ≡ Stored (fillingOf (record { name = f .definition .name; last = d .last }) firsts st)
+  byte-stored =
+      sym e
+      ∙ ap (λ (x : StoreAnswer). storingOf x firsts st) done
+      ∙ ap (λ (n : ℕ). Stored (fillingOf (record { name = n; last = d .last }) firsts st)) same-name
+
+pub refused-keeps : (a : StoreAnswer) (r : Refusal) (lent left : List ℕ) → a ≡ Refused r → KeptIfRefused a lent left → left ≡ lent
+refused-keeps a r lent left e k = rw e at k

@@ -1,6 +1,7 @@
 // ESC and another byte of the open definition: both are stored, or neither.
 use crate::definitions::StoreAnswer;
 use crate::definitions::store_byte;
+use macros::cells::ESC;
 use macros::cells::MOST_BYTES;
 use macros::cells::count_of;
 use macros::cells::good_count;
@@ -12,8 +13,6 @@ ghost use Rattle.rules.specs.Store.{storeEscapeAnd};
 ghost use Rattle.macros.specs.Lent.{Sized, IsName};
 ghost use Rattle.storing.specs.Storing.{fillingOf, storingOf, KeptIfRefused};
 ghost use Rattle.storing.specs.Room.{freeCell, roomForTwo};
-
-const ESC: u8 = 27;
 
 // Whether bytes can be stored, tested before the first is.
 enum Room {
