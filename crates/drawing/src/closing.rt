@@ -120,5 +120,10 @@ pub fn close(
         out,
         done.at,
     );
-    no_record(resting(done.pen.point), opened(0, ORIGIN), done.look, done.at)
+    no_record(
+        resting(done.pen.point),
+        opened(0, ORIGIN),
+        done.look,
+        done.at,
+    )
 }
