@@ -17,13 +17,12 @@ use Rattle.rules.specs.declared.Definition.{Definition}
 use Rattle.rules.specs.declared.Element.{Element}
 use Rattle.rules.specs.declared.Refusal.the-variants.{ByteOver127}
 use Rattle.rules.specs.declared.Sets.{Sets}
-use Rattle.rules.specs.declared.SingleShift.{SingleShift}
 use Rattle.rules.specs.declared.Waiting.{Waiting}
 use Rattle.rules.specs.declared.Waiting.the-variants.{Nothing, Shifted, Escape, Designator, Longer, Name, Body, BodyEscape}
-use Rattle.rules.specs.Coding.{Refuse, shiftedTo, classOf, reactTo, react}
+use Rattle.rules.specs.Coding.{Refuse, classOf, reactTo, react}
 use Rattle.rules.specs.Ranges.{nameFits, waitingFits}
 use Rattle.macros.specs.Lent.{IsName}
-use Rattle.coding.specs.View.{codingOf, reactionOf, readFrom}
+use Rattle.coding.specs.View.{codingOf, reactionOf, elementRead, readFrom}
 use Rattle.coding.specs.declared.reactions.Reacted.{Reacted}
 use Rattle.coding.proofs.Answers.{Answers, unchanged}
 
@@ -50,19 +49,40 @@ others-fit Name h = refl
 others-fit (Body d) h = absurd (miss no-definition 6 tt h)
 others-fit (BodyEscape d) h = absurd (miss no-definition 7 tt h)
 
--- Where nothing is waited for the byte is read from the element in use, after a single shift from that shifted to
-pub from-used : (k : Class) (c : Coding) (st : List ℕ) (b : ℕ) → readFrom (c .sets .used) k c st b ≡ reactTo Nothing k c st b
-unfolding readFrom reactTo
-from-used (Below k) c st b = refl
-from-used Column2 c st b = refl
-from-used Above c st b = refl
+-- Without a single shift the element in use is read from
+abbrev no-shift : List ℕ
+no-shift = 0 ∷ 2 ∷ 3 ∷ 4 ∷ 5 ∷ 6 ∷ 7 ∷ []
 
-pub from-shifted : (e : Element) (s : SingleShift) (k : Class) (c : Coding) (st : List ℕ) (b : ℕ) → e ≡ shiftedTo s
-    → readFrom e k c st b ≡ reactTo (Shifted s) k c st b
-unfolding readFrom reactTo
-from-shifted e s (Below k) c st b h = refl
-from-shifted e s Column2 c st b h = rw h
-from-shifted e s Above c st b h = rw h
+pub others-use : (w : Waiting) (s : Sets) → OneOf no-shift (tagOf the-waiting w) → s .used ≡ elementRead w s
+unfolding elementRead
+others-use Nothing s h = refl
+others-use (Shifted x) s h = absurd (miss no-shift 1 tt h)
+others-use Escape s h = refl
+others-use (Designator e) s h = refl
+others-use Longer s h = refl
+others-use Name s h = refl
+others-use (Body d) s h = refl
+others-use (BodyEscape d) s h = refl
+
+-- Where nothing is waited for, or only the byte that a single shift names, the byte is read from a set
+abbrev no-sequence : List ℕ
+no-sequence = 0 ∷ 1 ∷ []
+
+pub others-read : (w : Waiting) (e : Element) (k : Class) (c : Coding) (st : List ℕ) (b : ℕ) → OneOf no-sequence (tagOf the-waiting w)
+    → e ≡ elementRead w (c .sets) → readFrom e k c st b ≡ reactTo w k c st b
+unfolding elementRead readFrom reactTo
+others-read Nothing e (Below k) c st b h q = refl
+others-read Nothing e Column2 c st b h q = rw q
+others-read Nothing e Above c st b h q = rw q
+others-read (Shifted s) e (Below k) c st b h q = refl
+others-read (Shifted s) e Column2 c st b h q = rw q
+others-read (Shifted s) e Above c st b h q = rw q
+others-read Escape e k c st b h q = absurd (miss no-sequence 2 tt h)
+others-read (Designator x) e k c st b h q = absurd (miss no-sequence 3 tt h)
+others-read Longer e k c st b h q = absurd (miss no-sequence 4 tt h)
+others-read Name e k c st b h q = absurd (miss no-sequence 5 tt h)
+others-read (Body d) e k c st b h q = absurd (miss no-sequence 6 tt h)
+others-read (BodyEscape d) e k c st b h q = absurd (miss no-sequence 7 tt h)
 
 -- A byte over 127, and any other
 module _ (s : Sets) (w : Waiting) (f st : List ℕ) (b : ℕ) (r : Reacted) where

@@ -5,11 +5,11 @@ use mathlib.Core.Path.{_≡_}
 use Rattle.rules.specs.declared.Element.{Element}
 use Rattle.rules.specs.declared.Sets.{Sets}
 use Rattle.rules.specs.declared.Waiting.{Waiting}
-use Rattle.rules.specs.declared.Waiting.the-variants.{Nothing}
+use Rattle.rules.specs.declared.Waiting.the-variants.{Nothing, Shifted, Escape, Designator, Longer, Name, Body, BodyEscape}
 use Rattle.rules.specs.declared.Class.{Class}
 use Rattle.rules.specs.declared.Class.the-variants.{Below, Column2, Above}
 use Rattle.rules.specs.declared.Coding.{Coding}
-use Rattle.rules.specs.Coding.{Reaction, Refuse, Call, React, setOf, wait, control, graphic}
+use Rattle.rules.specs.Coding.{Reaction, Refuse, Call, React, setOf, shiftedTo, wait, control, graphic}
 use Rattle.coding.specs.declared.reactions.Effect.{Effect}
 use Rattle.coding.specs.declared.reactions.Effect.the-variants.{Refuses, Calls, Acts}
 use Rattle.coding.specs.declared.reactions.Reacted.{Reacted}
@@ -36,6 +36,17 @@ KeptBy (Acts a) lent left = Unit
 
 abbrev pub Kept : Reacted → List ℕ → List ℕ → Type 0
 Kept r lent left = KeptBy (r .effect) lent left
+
+-- The code element that a byte is read from
+unfoldable pub elementRead : Waiting → Sets → Element
+elementRead Nothing s = s .used
+elementRead (Shifted x) s = shiftedTo x
+elementRead Escape s = s .used
+elementRead (Designator e) s = s .used
+elementRead Longer s = s .used
+elementRead Name s = s .used
+elementRead (Body d) s = s .used
+elementRead (BodyEscape d) s = s .used
 
 -- A byte that is read from a code element, shifted to or in use
 unfoldable pub readFrom : Element → Class → Coding → List ℕ → ℕ → Reaction

@@ -14,6 +14,7 @@ use crate::escapes::in_escape;
 use crate::escapes::in_longer;
 use crate::reactions::Reacted;
 use crate::reactions::refuse;
+use rules::Element;
 use rules::Refusal;
 use rules::Sets;
 use rules::Waiting;
@@ -23,7 +24,17 @@ ghost use mathlib.Core.Bool.{true};
 ghost use Rattle.rules.specs.Coding.{react};
 ghost use Rattle.rules.specs.Ranges.{waitingFits};
 ghost use Rattle.macros.specs.Lent.{Sized};
-ghost use Rattle.coding.specs.View.{codingOf, reactionOf, Kept};
+ghost use Rattle.coding.specs.View.{codingOf, reactionOf, elementRead, Kept};
+
+// The element that a byte is read from: the one a single shift names, else the one in use.
+fn element_read(waiting: Waiting, sets: Sets) -> Element
+    ensures { λ r. ⌜ r ≡ elementRead waiting sets ⌝ }
+{
+    match waiting {
+        Waiting::Shifted(shift) => shifted_to(shift),
+        _ => sets.used,
+    }
+}
 
 // A definition is stored as it is read. Where the byte is refused or calls a name, first cells and store stay as lent.
 pub fn react(
@@ -41,16 +52,12 @@ pub fn react(
         return refuse(sets, Refusal::ByteOver127);
     }
     match waiting {
-        Waiting::Nothing => {
-            let used = sets.used;
-            read_from(used, sets, byte)
-        }
-        Waiting::Shifted(shift) => read_from(shifted_to(shift), sets, byte),
         Waiting::Escape => in_escape(sets, byte),
         Waiting::Designator(element) => in_designation(element, sets, byte),
         Waiting::Longer => in_longer(sets, byte),
         Waiting::Name => take_name(sets, firsts, store, byte),
         Waiting::Body(definition) => in_body(definition, sets, firsts, store, byte),
         Waiting::BodyEscape(definition) => in_body_escape(definition, sets, firsts, store, byte),
+        _ => read_from(element_read(waiting, sets), sets, byte),
     }
 }

@@ -1,8 +1,8 @@
-use mathlib.Core.Path.{_∙_}
-use Rattle.rules.specs.declared.Waiting.the-variants.{Nothing, Shifted, Escape, Designator, Longer, Name, Body, BodyEscape}
+use mathlib.Core.Path.{refl, _∙_}
+use Rattle.rules.specs.declared.Waiting.the-variants.{Escape, Designator, Longer, Name, Body, BodyEscape}
 use Rattle.rules.specs.Coding.{reactTo}
 use Rattle.rules.specs.Ranges.{waitingFits}
-use Rattle.coding.proofs.ReactLaws.{is-name, from-used, from-shifted, over, inside, outside}
+use Rattle.coding.proofs.ReactLaws.{is-name, others-read, over, inside, outside}
 use borrow.Author.Needs.{needs}
 use Rattle.coding.proofs.react.Statement.{statement}
 use Rattle.coding.proofs.react.Tie as tie
@@ -16,75 +16,69 @@ returns c =
 in-body-requires : tie.Need-in-body-requires
 unfolding waitingFits
 in-body-requires c κs =
-    let waiting3· = c .before .before .before .waiting3 in
+    let waiting2· = c .before .before .before .waiting2 in
     let pre· = c .before .before .before .before .before .before .before .pre in
-    (search needs, is-name _ (rw (waiting3· .given .1) at (pre· .1)))
+    (search needs, is-name _ (rw (waiting2· .given .1) at (pre· .1)))
 
 in-body-escape-requires : tie.Need-in-body-escape-requires
 unfolding waitingFits
 in-body-escape-requires c κs =
-    let waiting4· = c .before .before .before .waiting4 in
+    let waiting3· = c .before .before .before .waiting3 in
     let pre· = c .before .before .before .before .before .before .before .pre in
-    (search needs, is-name _ (rw (waiting4· .given .1) at (pre· .1)))
+    (search needs, is-name _ (rw (waiting3· .given .1) at (pre· .1)))
 
 returns-2 : tie.Need-returns-2
 returns-2 c =
-    let read-from· = c .read-from in
+    let in-escape· = c .in-escape in
     let if1· = c .before .before .before .if1 in
     let enum-told· = c .before .enum-told in
-    outside _ _ _ _ _ (read-from· .result) (if1· .left) Nothing (enum-told· .given .1) (read-from· .ensures Nothing _ _ ∙ from-used _ _ _ _)
+    outside _ _ _ _ _ (in-escape· .result) (if1· .left) Escape (enum-told· .given .1) (in-escape· .ensures _ _)
 
 returns-3 : tie.Need-returns-3
 returns-3 c =
-    let read-from2· = c .read-from2 in
-    let if1· = c .before .before .before .before .before .if1 in
-    let waiting· = c .before .before .before .waiting in
-    let shifted-to· = c .before .shifted-to in
-    outside _ _ _ _ _ (read-from2· .result) (if1· .left) (Shifted _) (waiting· .given .1) (read-from2· .ensures (Shifted _) _ _ ∙ from-shifted _ _ _ _ _ _ (shifted-to· .ensures))
+    let in-designation· = c .in-designation in
+    let if1· = c .before .before .before .before .if1 in
+    let waiting· = c .before .before .waiting in
+    outside _ _ _ _ _ (in-designation· .result) (if1· .left) (Designator _) (waiting· .given .1) (in-designation· .ensures _ _)
 
 returns-4 : tie.Need-returns-4
 returns-4 c =
-    let in-escape· = c .in-escape in
+    let in-longer· = c .in-longer in
     let if1· = c .before .before .before .if1 in
     let enum-told2· = c .before .enum-told2 in
-    outside _ _ _ _ _ (in-escape· .result) (if1· .left) Escape (enum-told2· .given .1) (in-escape· .ensures _ _)
+    outside _ _ _ _ _ (in-longer· .result) (if1· .left) Longer (enum-told2· .given .1) (in-longer· .ensures _ _)
 
 returns-5 : tie.Need-returns-5
 returns-5 c =
-    let in-designation· = c .in-designation in
-    let if1· = c .before .before .before .before .if1 in
-    let waiting2· = c .before .before .waiting2 in
-    outside _ _ _ _ _ (in-designation· .result) (if1· .left) (Designator _) (waiting2· .given .1) (in-designation· .ensures _ _)
-
-returns-6 : tie.Need-returns-6
-returns-6 c =
-    let in-longer· = c .in-longer in
-    let if1· = c .before .before .before .if1 in
-    let enum-told3· = c .before .enum-told3 in
-    outside _ _ _ _ _ (in-longer· .result) (if1· .left) Longer (enum-told3· .given .1) (in-longer· .ensures _ _)
-
-returns-7 : tie.Need-returns-7
-returns-7 c =
     let take-name· = c .before .before .take-name in
     let if1· = c .before .before .before .before .before .before .before .if1 in
-    let enum-told4· = c .before .before .before .before .before .enum-told4 in
-    inside _ _ _ _ _ (take-name· .result) (if1· .left) Name (enum-told4· .given .1) _ _ (take-name· .ensures)
+    let enum-told3· = c .before .before .before .before .before .enum-told3 in
+    inside _ _ _ _ _ (take-name· .result) (if1· .left) Name (enum-told3· .given .1) _ _ (take-name· .ensures)
 
-returns-8 : tie.Need-returns-8
+returns-6 : tie.Need-returns-6
 unfolding reactTo
-returns-8 c =
+returns-6 c =
     let in-body· = c .before .before .in-body in
     let if1· = c .before .before .before .before .before .before .before .before .if1 in
-    let waiting3· = c .before .before .before .before .before .before .waiting3 in
-    inside _ _ _ _ _ (in-body· .result) (if1· .left) (Body _) (waiting3· .given .1) _ _ (in-body· .ensures)
+    let waiting2· = c .before .before .before .before .before .before .waiting2 in
+    inside _ _ _ _ _ (in-body· .result) (if1· .left) (Body _) (waiting2· .given .1) _ _ (in-body· .ensures)
 
-returns-9 : tie.Need-returns-9
+returns-7 : tie.Need-returns-7
 unfolding reactTo
-returns-9 c =
+returns-7 c =
     let in-body-escape· = c .before .before .in-body-escape in
     let if1· = c .before .before .before .before .before .before .before .before .if1 in
-    let waiting4· = c .before .before .before .before .before .before .waiting4 in
-    inside _ _ _ _ _ (in-body-escape· .result) (if1· .left) (BodyEscape _) (waiting4· .given .1) _ _ (in-body-escape· .ensures)
+    let waiting3· = c .before .before .before .before .before .before .waiting3 in
+    inside _ _ _ _ _ (in-body-escape· .result) (if1· .left) (BodyEscape _) (waiting3· .given .1) _ _ (in-body-escape· .ensures)
+
+returns-8 : tie.Need-returns-8
+returns-8 c =
+    let read-from· = c .read-from in
+    let if1· = c .before .before .before .if1 in
+    let args· = c .before .before .before .before .before .args in
+    let match· = c .before .before .match in
+    let element-read· = c .before .element-read in
+    outside _ _ _ _ _ (read-from· .result) (if1· .left) _ refl (read-from· .ensures (args· .waiting) _ _ ∙ others-read _ _ _ _ _ _ (match· .keys7) (element-read· .ensures))
 
 pub react-spec : {M : Type 1} → statement M
 react-spec =
@@ -92,11 +86,6 @@ react-spec =
     (tie.spec
     (λ c κs. search needs)
     returns
-    (λ c. search needs)
-    (λ c κs. search needs)
-    (λ c. search needs)
-    (λ c κs. search needs)
-    (λ c κs. search needs)
     (λ c. search needs)
     (λ c κs. search needs)
     (λ c. search needs)
@@ -109,14 +98,15 @@ react-spec =
     in-body-requires
     (λ c. search needs)
     in-body-escape-requires
+    (λ c κs. search needs)
+    (λ c κs. search needs)
     returns-2
     returns-3
     returns-4
+    (λ c. search needs)
     returns-5
+    (λ c. search needs)
     returns-6
     (λ c. search needs)
     returns-7
-    (λ c. search needs)
-    returns-8
-    (λ c. search needs)
-    returns-9)
+    returns-8)
