@@ -1,6 +1,7 @@
 // Runs of idle bytes: those that ask nothing of drawing and call no macro, many in one call.
 use coding::react;
 use coding::reactions::Effect;
+use coding::reactions::sets_after;
 use rules::Action;
 use rules::Sets;
 use rules::Waiting;
@@ -32,6 +33,8 @@ fn is_idle(effect: Effect) -> bool
             Action::Idle => true,
             _ => false,
         },
+        Effect::Uses(_) => true,
+        Effect::Designates(_, _) => true,
     }
 }
 
@@ -105,7 +108,7 @@ pub fn run_idle(
                 waiting,
             };
         }
-        sets = reacted.sets;
+        sets = sets_after(effect, sets);
         waiting = reacted.waiting;
         count += 1;
     }

@@ -81,6 +81,9 @@ returns-2 c =
     let kept = busy-keeps _ _ _ _ _ (react· .result) _ _ (react· .ensures .0) (sym (is-idle· .ensures) ∙ not-true (is-idle· .result) (if2· .taken)) (react· .ensures .1) in
     (rw (kept .0, kept .1) (idle-join _ _ _ _ _ _ (loop· .inv .3) (run-body· .ensures .0 _ _)), omega (arith, run-body· .ensures .1))
 
+sets-after-requires : tie.Need-sets-after-requires Inv-loop μ-loop
+sets-after-requires c κs = tt
+
 add-count-2 : tie.Need-add-count-2 Inv-loop μ-loop
 add-count-2 c =
     let may-be-idle· = c .before .before .before .before .before .before .before .before .before .before .may-be-idle in
@@ -103,12 +106,13 @@ loop-again c =
     let may-be-idle· = c .before .before .before .before .before .before .before .before .before .before .may-be-idle in
     let if1· = c .before .before .before .before .before .before .before .before .before .if1 in
     let react· = c .before .before .before .before .before .react in
+    let sets-after· = c .sets-after in
     let idle = sym (is-idle· .ensures) ∙ not-false (is-idle· .result) (if2· .left) in
     let ran = idle-join _ _ _ _ _ _ (loop· .inv .3) (run-body· .ensures .0 _ _) in (
       omega (arith, may-be-idle· .ensures (not-false (may-be-idle· .result) (if1· .left))),
       search needs,
       idle-fits _ _ _ _ _ (react· .result) _ _ (react· .ensures .0) idle (loop· .inv .2),
-      idle-on _ _ _ _ _ _ _ ran (idle-reacts _ _ _ _ _ (react· .result) _ _ (react· .ensures .0) idle),
+      rw (sets-after· .ensures) (idle-on _ _ _ _ _ _ _ ran (idle-reacts _ _ _ _ _ (react· .result) _ _ (react· .ensures .0) idle)),
     )
 
 pub run-idle-spec : {M : Type 1} → statement M
@@ -131,6 +135,7 @@ run-idle-spec =
     is-idle-requires
     same-length-2
     returns-2
+    sets-after-requires
     add-count-2
     loop-less
     loop-again)
