@@ -31,7 +31,7 @@ use Rattle.rules.specs.declared.Waiting.the-variants.{Nothing, Shifted, Escape,
 use Rattle.rules.specs.Store.{firstOf, Freeing, NotFreed, Freed, freeBody, Storing, NotStored, Stored, storeByte, storeEscapeAnd}
 use Rattle.rules.specs.Coding.{Reaction, Refuse, Call, React, setOf, shiftedTo, wait, named, openBody, keep, filling, inBody, innerOf, inBodyEscape, finalOf, escape, designatedBy, designation, control, graphic, classOf, reactTo, react}
 use Rattle.macros.specs.Lent.{IsName}
-use Rattle.coding.specs.View.{codingOf, effectOn, reactionOf}
+use Rattle.coding.specs.View.{codingOf, effectOn, setsAfter, reactionOf}
 use Rattle.coding.specs.declared.reactions.Effect.{Effect}
 use Rattle.coding.specs.declared.reactions.Effect.the-variants.{Calls, Acts}
 use Rattle.coding.specs.declared.reactions.Reacted.{Reacted}
@@ -137,9 +137,9 @@ module _ (c : Coding) (st : List ℕ) (b : ℕ) where
       (λ e. waiting-told (c .waiting) (classOf b) (class-graphic b (ltb-false 127 b e)))
 
   -- The same of what the code answers
-  module _ (r : Reacted) (f₁ st₁ : List ℕ) (e : reactionOf r f₁ st₁ ≡ react c st b) where
-    told-by : (x : Effect) → r .effect ≡ x → Told c st b (effectOn x (codingOf (r .sets) (r .waiting) f₁) st₁)
-    told-by x q = by (r .effect) (codingOf (r .sets) (r .waiting) f₁) (rw (← e) at told) q
+  module _ (r : Reacted) (f₁ st₁ : List ℕ) (e : reactionOf (c .sets) r f₁ st₁ ≡ react c st b) where
+    told-by : (x : Effect) → r .effect ≡ x → Told c st b (effectOn x (codingOf (setsAfter (r .effect) (c .sets)) (r .waiting) f₁) st₁)
+    told-by x q = by (r .effect) (codingOf (setsAfter (r .effect) (c .sets)) (r .waiting) f₁) (rw (← e) at told) q
       where
         by : (y : Effect) (c₁ : Coding) → Told c st b (effectOn y c₁ st₁) → y ≡ x → Told c st b (effectOn x c₁ st₁)
         by y c₁ h p = rw p at h

@@ -1,4 +1,4 @@
--- The reaction by what is waited for.
+-- The reaction by what is waited for, and the sets after it.
 -- Assumes nothing.
 use mathlib.Core.Path.{_≡_, refl}
 use mathlib.Core.Bool.{true}
@@ -9,6 +9,7 @@ use lib.Dec.{leb}
 use types.Run.{OneOf, miss}
 use denote.Enum.Declared.{tagOf}
 use Rattle.rules.proofs.Waiting.{the-type as the-waiting}
+use Rattle.coding.proofs.reactions.Effect.{the-type as the-effect}
 use Rattle.rules.proofs.Bools.{and-left, and-right}
 use Rattle.rules.specs.declared.Class.{Class}
 use Rattle.rules.specs.declared.Class.the-variants.{Below, Column2, Above}
@@ -22,9 +23,9 @@ use Rattle.rules.specs.declared.Waiting.the-variants.{Nothing, Shifted, Escape,
 use Rattle.rules.specs.Coding.{Refuse, classOf, reactTo, react}
 use Rattle.rules.specs.Ranges.{nameFits, waitingFits}
 use Rattle.macros.specs.Lent.{IsName}
-use Rattle.coding.specs.View.{codingOf, reactionOf, elementRead, readFrom}
-use Rattle.coding.specs.declared.reactions.Reacted.{Reacted}
-use Rattle.coding.proofs.Answers.{Answers, unchanged}
+use Rattle.coding.specs.View.{codingOf, setsAfter, elementRead, readFrom}
+use Rattle.coding.specs.declared.reactions.Effect.{Effect}
+use Rattle.coding.specs.declared.reactions.Effect.the-variants.{Refuses, Calls, Acts, Uses, Designates}
 
 -- The name being defined is one of the 96
 pub is-name : (d : Definition) → nameFits d ≡ true → IsName (d .name)
@@ -49,7 +50,18 @@ others-fit Name h = refl
 others-fit (Body d) h = absurd (miss no-definition 6 tt h)
 others-fit (BodyEscape d) h = absurd (miss no-definition 7 tt h)
 
--- Without a single shift the element in use is read from
+-- The sets after an effect: most leave them
+abbrev no-change : List ℕ
+no-change = 0 ∷ 1 ∷ 2 ∷ []
+
+pub others-leave : (e : Effect) (s : Sets) → OneOf no-change (tagOf the-effect e) → s ≡ setsAfter e s
+others-leave (Refuses r) s h = refl
+others-leave (Calls n) s h = refl
+others-leave (Acts a) s h = refl
+others-leave (Uses e) s h = absurd (miss no-change 3 tt h)
+others-leave (Designates e x) s h = absurd (miss no-change 4 tt h)
+
+-- The element that a byte is read from: without a single shift, the one in use
 abbrev no-shift : List ℕ
 no-shift = 0 ∷ 2 ∷ 3 ∷ 4 ∷ 5 ∷ 6 ∷ 7 ∷ []
 
@@ -64,7 +76,7 @@ others-use Name s h = refl
 others-use (Body d) s h = refl
 others-use (BodyEscape d) s h = refl
 
--- Where nothing is waited for, or only the byte that a single shift names, the byte is read from a set
+-- Outside escape sequences and definitions the byte is read from that element
 abbrev no-sequence : List ℕ
 no-sequence = 0 ∷ 1 ∷ []
 
@@ -85,16 +97,11 @@ others-read (Body d) e k c st b h q = absurd (miss no-sequence 6 tt h)
 others-read (BodyEscape d) e k c st b h q = absurd (miss no-sequence 7 tt h)
 
 -- A byte over 127, and any other
-module _ (s : Sets) (w : Waiting) (f st : List ℕ) (b : ℕ) (r : Reacted) where
-  pub over : 127 < b → reactionOf r f st ≡ Refuse ByteOver127 → Answers r (react (codingOf s w f) st b) f st f st
-  unfolding react
-  over h e = rw (lt-ltb 127 b h) (unchanged r (Refuse ByteOver127) f st e)
+pub over : (c : Coding) (st : List ℕ) (b : ℕ) → 127 < b → Refuse ByteOver127 ≡ react c st b
+unfolding react
+over c st b h = rw (lt-ltb 127 b h)
 
-  module _ (h : b ≤ 127) (v : Waiting) (e : w ≡ v) where
-    pub inside : (f₁ st₁ : List ℕ) → Answers r (reactTo v (classOf b) (codingOf s v f) st b) f st f₁ st₁
-        → Answers r (react (codingOf s w f) st b) f st f₁ st₁
-    unfolding react
-    inside f₁ st₁ a = rw (le-ltb 127 b h, e) a
-
-    pub outside : reactionOf r f st ≡ reactTo v (classOf b) (codingOf s v f) st b → Answers r (react (codingOf s w f) st b) f st f st
-    outside x = inside f st (unchanged r _ f st x)
+pub inside : (s : Sets) (w : Waiting) (f st : List ℕ) (b : ℕ) → b ≤ 127 → (v : Waiting) → w ≡ v
+    → reactTo v (classOf b) (codingOf s v f) st b ≡ react (codingOf s w f) st b
+unfolding react
+inside s w f st b h v e = rw (le-ltb 127 b h, e)

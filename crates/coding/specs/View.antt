@@ -8,10 +8,11 @@ use Rattle.rules.specs.declared.Waiting.{Waiting}
 use Rattle.rules.specs.declared.Waiting.the-variants.{Nothing, Shifted, Escape, Designator, Longer, Name, Body, BodyEscape}
 use Rattle.rules.specs.declared.Class.{Class}
 use Rattle.rules.specs.declared.Class.the-variants.{Below, Column2, Above}
+use Rattle.rules.specs.declared.Action.the-variants.{Idle}
 use Rattle.rules.specs.declared.Coding.{Coding}
-use Rattle.rules.specs.Coding.{Reaction, Refuse, Call, React, setOf, shiftedTo, wait, control, graphic}
+use Rattle.rules.specs.Coding.{Reaction, Refuse, Call, React, setOf, inUse, designate, shiftedTo, wait, control, graphic}
 use Rattle.coding.specs.declared.reactions.Effect.{Effect}
-use Rattle.coding.specs.declared.reactions.Effect.the-variants.{Refuses, Calls, Acts}
+use Rattle.coding.specs.declared.reactions.Effect.the-variants.{Refuses, Calls, Acts, Uses, Designates}
 use Rattle.coding.specs.declared.reactions.Reacted.{Reacted}
 
 -- The state in the parts that functions take, the first cells lent beside them
@@ -23,21 +24,33 @@ abbrev pub effectOn : Effect → Coding → List ℕ → Reaction
 effectOn (Refuses r) c st = Refuse r
 effectOn (Calls n) c st = Call c n
 effectOn (Acts a) c st = React c st a
+effectOn (Uses e) c st = React c st Idle
+effectOn (Designates e x) c st = React c st Idle
 
--- An answer with the first cells and the store left
-abbrev pub reactionOf : Reacted → List ℕ → List ℕ → Reaction
-reactionOf r f st = effectOn (r .effect) (codingOf (r .sets) (r .waiting) f) st
+-- The sets after an effect
+abbrev pub setsAfter : Effect → Sets → Sets
+setsAfter (Refuses r) s = s
+setsAfter (Calls n) s = s
+setsAfter (Acts a) s = s
+setsAfter (Uses e) s = inUse e s
+setsAfter (Designates e x) s = designate e x s
 
--- "A refused step changes nothing", and a call neither: what is left is what was lent
+-- An answer, for the sets before it, with the first cells and the store left
+abbrev pub reactionOf : Sets → Reacted → List ℕ → List ℕ → Reaction
+reactionOf s r f st = effectOn (r .effect) (codingOf (setsAfter (r .effect) s) (r .waiting) f) st
+
+-- "A refused step changes nothing", and neither does a call or a change of the sets: what is left is what was lent
 abbrev pub KeptBy : Effect → List ℕ → List ℕ → Type 0
 KeptBy (Refuses r) lent left = left ≡ lent
 KeptBy (Calls n) lent left = left ≡ lent
 KeptBy (Acts a) lent left = Unit
+KeptBy (Uses e) lent left = left ≡ lent
+KeptBy (Designates e x) lent left = left ≡ lent
 
 abbrev pub Kept : Reacted → List ℕ → List ℕ → Type 0
 Kept r lent left = KeptBy (r .effect) lent left
 
--- The code element that a byte is read from
+-- The code element that a byte is read from: the one a single shift names, else the one in use
 unfoldable pub elementRead : Waiting → Sets → Element
 elementRead Nothing s = s .used
 elementRead (Shifted x) s = shiftedTo x
@@ -48,7 +61,7 @@ elementRead Name s = s .used
 elementRead (Body d) s = s .used
 elementRead (BodyEscape d) s = s .used
 
--- A byte that is read from a code element, shifted to or in use
+-- A byte that is read from a code element
 unfoldable pub readFrom : Element → Class → Coding → List ℕ → ℕ → Reaction
 readFrom e (Below k) c st b = control k (wait Nothing c) st b
 readFrom e Column2 c st b = graphic (setOf e (c .sets)) (wait Nothing c) st b

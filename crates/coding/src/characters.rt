@@ -3,6 +3,7 @@ use crate::reactions::Reacted;
 use crate::reactions::act;
 use crate::reactions::call;
 use crate::reactions::refuse;
+use crate::reactions::use_element;
 use crate::reactions::wait_for;
 use rules::Action;
 use rules::Class;
@@ -14,7 +15,6 @@ use rules::Sets;
 use rules::Waiting;
 use tables::controls::class_of;
 use tables::sets::character;
-use tables::sets::in_use;
 use tables::sets::set_of;
 ghost use mathlib.Core.List.{List};
 ghost use mathlib.Core.Path.{_≡_};
@@ -22,46 +22,46 @@ ghost use Prim.Native.Nat.{ℕ};
 ghost use Rattle.rules.specs.Coding.{control, graphic, classOf};
 ghost use Rattle.coding.specs.View.{codingOf, reactionOf, readFrom};
 
-pub fn control(k: Control, sets: Sets, byte: u8) -> Reacted
-    ensures { λ r. ⌜ ((f st : List ℕ) → reactionOf r f st ≡ control k (codingOf sets Waiting.Nothing f) st byte) ⌝ }
+pub fn control(k: Control, byte: u8) -> Reacted
+    ensures { λ r. ⌜ ((s : Sets) (f st : List ℕ) → reactionOf s r f st ≡ control k (codingOf s Waiting.Nothing f) st byte) ⌝ }
 {
     match k {
-        Control::Ignored => act(sets, Action::Idle),
-        Control::Locks(element) => act(in_use(element, sets), Action::Idle),
-        Control::Shifts(shift) => wait_for(sets, Waiting::Shifted(shift)),
-        Control::Escapes => wait_for(sets, Waiting::Escape),
-        Control::Barred => refuse(sets, Refusal::Unsupported),
-        Control::Recorded => act(sets, Action::Control(byte)),
+        Control::Ignored => wait_for(Waiting::Nothing),
+        Control::Locks(element) => use_element(element),
+        Control::Shifts(shift) => wait_for(Waiting::Shifted(shift)),
+        Control::Escapes => wait_for(Waiting::Escape),
+        Control::Barred => refuse(Refusal::Unsupported),
+        Control::Recorded => act(Action::Control(byte)),
     }
 }
 
 // A byte of the PDI set.
-fn pdi(sets: Sets, byte: u8) -> Reacted
-    ensures { λ r. ⌜ ((f st : List ℕ) → reactionOf r f st ≡ graphic Set.Pdi (codingOf sets Waiting.Nothing f) st byte) ⌝ }
+fn pdi(byte: u8) -> Reacted
+    ensures { λ r. ⌜ ((s : Sets) (f st : List ℕ) → reactionOf s r f st ≡ graphic Set.Pdi (codingOf s Waiting.Nothing f) st byte) ⌝ }
 {
     if byte < 64 {
-        return act(sets, Action::Opcode(byte));
+        return act(Action::Opcode(byte));
     }
-    act(sets, Action::Data(byte))
+    act(Action::Data(byte))
 }
 
-fn graphic(set: Set, sets: Sets, byte: u8) -> Reacted
-    ensures { λ r. ⌜ ((f st : List ℕ) → reactionOf r f st ≡ graphic set (codingOf sets Waiting.Nothing f) st byte) ⌝ }
+fn graphic(set: Set, byte: u8) -> Reacted
+    ensures { λ r. ⌜ ((s : Sets) (f st : List ℕ) → reactionOf s r f st ≡ graphic set (codingOf s Waiting.Nothing f) st byte) ⌝ }
 {
     match set {
-        Set::Characters(repertoire) => act(sets, character(repertoire, byte)),
-        Set::Pdi => pdi(sets, byte),
-        Set::Macro => call(sets, byte),
+        Set::Characters(repertoire) => act(character(repertoire, byte)),
+        Set::Pdi => pdi(byte),
+        Set::Macro => call(byte),
     }
 }
 
 // A control drops the single shift.
 pub fn read_from(element: Element, sets: Sets, byte: u8) -> Reacted
-    ensures { λ r. ⌜ ((w : Waiting) (f st : List ℕ) → reactionOf r f st ≡ readFrom element (classOf byte) (codingOf sets w f) st byte) ⌝ }
+    ensures { λ r. ⌜ ((w : Waiting) (f st : List ℕ) → reactionOf sets r f st ≡ readFrom element (classOf byte) (codingOf sets w f) st byte) ⌝ }
 {
     match class_of(byte) {
-        Class::Below(k) => control(k, sets, byte),
-        Class::Column2 => graphic(set_of(element, sets), sets, byte),
-        Class::Above => graphic(set_of(element, sets), sets, byte),
+        Class::Below(k) => control(k, byte),
+        Class::Column2 => graphic(set_of(element, sets), byte),
+        Class::Above => graphic(set_of(element, sets), byte),
     }
 }

@@ -9,7 +9,6 @@ use macros::names::set_first;
 use rules::Definition;
 use rules::Inner;
 use rules::Refusal;
-use rules::Sets;
 use rules::Waiting;
 use storing::definitions::StoreAnswer;
 use storing::definitions::store_byte;
@@ -19,93 +18,89 @@ ghost use lib.Dec.{eqb};
 ghost use mathlib.Core.List.{List};
 ghost use mathlib.Core.Path.{_≡_};
 ghost use Prim.Native.Nat.{ℕ, _≤_};
+ghost use Rattle.rules.specs.declared.Sets.{Sets};
 ghost use Rattle.rules.specs.Coding.{keep, openBody, inBody, innerOf, inBodyEscape, classOf, reactTo};
 ghost use Rattle.macros.specs.Lent.{Sized, IsName};
-ghost use Rattle.storing.specs.Storing.{storingOf};
+ghost use Rattle.storing.specs.Storing.{storingOf, KeptIfRefused};
 ghost use Rattle.coding.specs.View.{codingOf, reactionOf, Kept};
 
 const ESC: u8 = 27;
 
 // Frees the old body of the name.
-fn open_body(sets: Sets, firsts: &mut [u8; 96], store: &mut [u8], name: u8) -> Reacted
+fn open_body(firsts: &mut [u8; 96], store: &mut [u8], name: u8) -> Reacted
     requires { ⌜ (Sized (now store)) × (IsName name) ⌝ }
-    ensures reaction { λ r. ⌜ reactionOf r (now (firsts .exit)) (now (store .exit)) ≡ openBody name (codingOf sets Waiting.Name (now (firsts .entry))) (now (store .entry)) ⌝ }
+    ensures reaction { λ r. ⌜ ((s : Sets) → reactionOf s r (now (firsts .exit)) (now (store .exit)) ≡ openBody name (codingOf s Waiting.Name (now (firsts .entry))) (now (store .entry))) ⌝ }
     ensures kept { λ r. ⌜ (Kept r (now (firsts .entry)) (now (firsts .exit))) × (Kept r (now (store .entry)) (now (store .exit))) ⌝ }
 {
     match free_body(store, first_of(firsts, name)) {
-        FreeAnswer::Refused(refusal) => refuse(sets, refusal),
+        FreeAnswer::Refused(refusal) => refuse(refusal),
         FreeAnswer::Done => {
             set_first(firsts, name, 0);
-            wait_for(sets, Waiting::Body(Definition { name, last: 0 }))
+            wait_for(Waiting::Body(Definition { name, last: 0 }))
         }
     }
 }
 
-pub fn take_name(sets: Sets, firsts: &mut [u8; 96], store: &mut [u8], byte: u8) -> Reacted
+pub fn take_name(firsts: &mut [u8; 96], store: &mut [u8], byte: u8) -> Reacted
     requires { ⌜ (Sized (now store)) × (byte ≤ 127) ⌝ }
-    ensures reaction { λ r. ⌜ reactionOf r (now (firsts .exit)) (now (store .exit)) ≡ reactTo Waiting.Name (classOf byte) (codingOf sets Waiting.Name (now (firsts .entry))) (now (store .entry)) byte ⌝ }
+    ensures reaction { λ r. ⌜ ((s : Sets) → reactionOf s r (now (firsts .exit)) (now (store .exit)) ≡ reactTo Waiting.Name (classOf byte) (codingOf s Waiting.Name (now (firsts .entry))) (now (store .entry)) byte) ⌝ }
     ensures kept { λ r. ⌜ (Kept r (now (firsts .entry)) (now (firsts .exit))) × (Kept r (now (store .entry)) (now (store .exit))) ⌝ }
 {
     if byte < 32 {
-        return refuse(sets, Refusal::NameBelow);
+        return refuse(Refusal::NameBelow);
     }
-    open_body(sets, firsts, store, byte)
+    open_body(firsts, store, byte)
 }
 
 // The definition goes on after what was stored.
-fn keep_body(sets: Sets, answer: StoreAnswer) -> Reacted
-    ensures { λ r. ⌜ ((w : Waiting) (f g st : List ℕ) → reactionOf r f st ≡ keep Waiting.Body (storingOf answer f st) (codingOf sets w g)) ⌝ }
+fn keep_body(answer: StoreAnswer) -> Reacted
+    ensures reaction { λ r. ⌜ ((s : Sets) (w : Waiting) (f g st : List ℕ) → reactionOf s r f st ≡ keep Waiting.Body (storingOf answer f st) (codingOf s w g)) ⌝ }
+    ensures kept { λ r. ⌜ ((lent left : List ℕ) → KeptIfRefused answer lent left → Kept r lent left) ⌝ }
 {
     match answer {
-        StoreAnswer::Refused(refusal) => refuse(sets, refusal),
-        StoreAnswer::Done(definition) => wait_for(sets, Waiting::Body(definition)),
+        StoreAnswer::Refused(refusal) => refuse(refusal),
+        StoreAnswer::Done(definition) => wait_for(Waiting::Body(definition)),
     }
 }
 
 // An ESC was read after what was stored.
-fn keep_escape(sets: Sets, answer: StoreAnswer) -> Reacted
-    ensures { λ r. ⌜ ((w : Waiting) (f g st : List ℕ) → reactionOf r f st ≡ keep Waiting.BodyEscape (storingOf answer f st) (codingOf sets w g)) ⌝ }
+fn keep_escape(answer: StoreAnswer) -> Reacted
+    ensures reaction { λ r. ⌜ ((s : Sets) (w : Waiting) (f g st : List ℕ) → reactionOf s r f st ≡ keep Waiting.BodyEscape (storingOf answer f st) (codingOf s w g)) ⌝ }
+    ensures kept { λ r. ⌜ ((lent left : List ℕ) → KeptIfRefused answer lent left → Kept r lent left) ⌝ }
 {
     match answer {
-        StoreAnswer::Refused(refusal) => refuse(sets, refusal),
-        StoreAnswer::Done(definition) => wait_for(sets, Waiting::BodyEscape(definition)),
+        StoreAnswer::Refused(refusal) => refuse(refusal),
+        StoreAnswer::Done(definition) => wait_for(Waiting::BodyEscape(definition)),
     }
 }
 
-pub fn in_body(
-    definition: Definition,
-    sets: Sets,
-    firsts: &mut [u8; 96],
-    store: &mut [u8],
-    byte: u8,
-) -> Reacted
+pub fn in_body(definition: Definition, firsts: &mut [u8; 96], store: &mut [u8], byte: u8) -> Reacted
     requires { ⌜ (Sized (now store)) × (IsName (definition .name)) ⌝ }
-    ensures reaction { λ r. ⌜ reactionOf r (now (firsts .exit)) (now (store .exit)) ≡ inBody (eqb byte 27) definition (codingOf sets (Waiting.Body definition) (now (firsts .entry))) (now (store .entry)) byte ⌝ }
+    ensures reaction { λ r. ⌜ ((s : Sets) → reactionOf s r (now (firsts .exit)) (now (store .exit)) ≡ inBody (eqb byte 27) definition (codingOf s (Waiting.Body definition) (now (firsts .entry))) (now (store .entry)) byte) ⌝ }
     ensures kept { λ r. ⌜ (Kept r (now (firsts .entry)) (now (firsts .exit))) × (Kept r (now (store .entry)) (now (store .exit))) ⌝ }
 {
     if byte == ESC {
-        return wait_for(sets, Waiting::BodyEscape(definition));
+        return wait_for(Waiting::BodyEscape(definition));
     }
-    keep_body(sets, store_byte(store, firsts, definition, byte))
+    keep_body(store_byte(store, firsts, definition, byte))
 }
 
 // The byte after an ESC in a definition.
 pub fn in_body_escape(
     definition: Definition,
-    sets: Sets,
     firsts: &mut [u8; 96],
     store: &mut [u8],
     byte: u8,
 ) -> Reacted
     requires { ⌜ (Sized (now store)) × (IsName (definition .name)) ⌝ }
-    ensures reaction { λ r. ⌜ reactionOf r (now (firsts .exit)) (now (store .exit)) ≡ inBodyEscape (innerOf byte) definition (codingOf sets (Waiting.BodyEscape definition) (now (firsts .entry))) (now (store .entry)) byte ⌝ }
+    ensures reaction { λ r. ⌜ ((s : Sets) → reactionOf s r (now (firsts .exit)) (now (store .exit)) ≡ inBodyEscape (innerOf byte) definition (codingOf s (Waiting.BodyEscape definition) (now (firsts .entry))) (now (store .entry)) byte) ⌝ }
     ensures kept { λ r. ⌜ (Kept r (now (firsts .entry)) (now (firsts .exit))) × (Kept r (now (store .entry)) (now (store .exit))) ⌝ }
 {
     match inner_of(byte) {
-        Inner::OpensNext => wait_for(sets, Waiting::Name),
-        Inner::Bars => refuse(sets, Refusal::Unsupported),
-        Inner::EndsBody => wait_for(sets, Waiting::Nothing),
-        Inner::StartsAfresh => keep_escape(sets, store_byte(store, firsts, definition, ESC)),
-        Inner::StoresBoth => keep_body(sets, store_escape_and(store, firsts, definition, byte)),
+        Inner::OpensNext => wait_for(Waiting::Name),
+        Inner::Bars => refuse(Refusal::Unsupported),
+        Inner::EndsBody => wait_for(Waiting::Nothing),
+        Inner::StartsAfresh => keep_escape(store_byte(store, firsts, definition, ESC)),
+        Inner::StoresBoth => keep_body(store_escape_and(store, firsts, definition, byte)),
     }
 }

@@ -2,7 +2,9 @@
 use crate::characters::control;
 use crate::reactions::Reacted;
 use crate::reactions::act;
+use crate::reactions::designate_set;
 use crate::reactions::refuse;
+use crate::reactions::use_element;
 use crate::reactions::wait_for;
 use rules::Action;
 use rules::Class;
@@ -10,71 +12,69 @@ use rules::Designated;
 use rules::Element;
 use rules::Final;
 use rules::Refusal;
-use rules::Sets;
 use rules::Waiting;
 use tables::controls::class_of;
 use tables::escapes::designated_by;
 use tables::escapes::designator_of;
 use tables::escapes::final_of;
-use tables::sets::designate;
-use tables::sets::in_use;
 ghost use mathlib.Core.List.{List};
 ghost use mathlib.Core.Path.{_≡_};
 ghost use Prim.Native.Nat.{ℕ};
+ghost use Rattle.rules.specs.declared.Sets.{Sets};
 ghost use Rattle.rules.specs.Coding.{escape, designation, classOf, reactTo};
 ghost use Rattle.coding.specs.View.{codingOf, reactionOf};
 
 // The final byte of a two-byte escape sequence.
-fn escape(last: Final, sets: Sets) -> Reacted
-    ensures { λ r. ⌜ ((f st : List ℕ) → reactionOf r f st ≡ escape last (codingOf sets Waiting.Nothing f) st) ⌝ }
+fn escape(last: Final) -> Reacted
+    ensures { λ r. ⌜ ((s : Sets) (f st : List ℕ) → reactionOf s r f st ≡ escape last (codingOf s Waiting.Nothing f) st) ⌝ }
 {
     match last {
-        Final::Opens => wait_for(sets, Waiting::Name),
-        Final::Refuses => refuse(sets, Refusal::Unsupported),
-        Final::UsesG2 => act(in_use(Element::G2, sets), Action::Idle),
-        Final::UsesG3 => act(in_use(Element::G3, sets), Action::Idle),
-        Final::Closes => act(sets, Action::Close),
-        Final::NoMeaning => act(sets, Action::Idle),
+        Final::Opens => wait_for(Waiting::Name),
+        Final::Refuses => refuse(Refusal::Unsupported),
+        Final::UsesG2 => use_element(Element::G2),
+        Final::UsesG3 => use_element(Element::G3),
+        Final::Closes => act(Action::Close),
+        Final::NoMeaning => wait_for(Waiting::Nothing),
     }
 }
 
-fn designation(designated: Designated, element: Element, sets: Sets) -> Reacted
-    ensures { λ r. ⌜ ((f st : List ℕ) → reactionOf r f st ≡ designation designated element (codingOf sets Waiting.Nothing f) st) ⌝ }
+fn designation(designated: Designated, element: Element) -> Reacted
+    ensures { λ r. ⌜ ((s : Sets) (f st : List ℕ) → reactionOf s r f st ≡ designation designated element (codingOf s Waiting.Nothing f) st) ⌝ }
 {
     match designated {
-        Designated::Unassigned => act(sets, Action::Idle),
-        Designated::Names(set) => act(designate(element, set, sets), Action::Idle),
+        Designated::Unassigned => wait_for(Waiting::Nothing),
+        Designated::Names(set) => designate_set(element, set),
     }
 }
 
 // The byte after ESC.
-pub fn in_escape(sets: Sets, byte: u8) -> Reacted
-    ensures { λ r. ⌜ ((f st : List ℕ) → reactionOf r f st ≡ reactTo Waiting.Escape (classOf byte) (codingOf sets Waiting.Escape f) st byte) ⌝ }
+pub fn in_escape(byte: u8) -> Reacted
+    ensures { λ r. ⌜ ((s : Sets) (f st : List ℕ) → reactionOf s r f st ≡ reactTo Waiting.Escape (classOf byte) (codingOf s Waiting.Escape f) st byte) ⌝ }
 {
     match class_of(byte) {
-        Class::Below(k) => control(k, sets, byte),
-        Class::Column2 => wait_for(sets, designator_of(byte)),
-        Class::Above => escape(final_of(byte), sets),
+        Class::Below(k) => control(k, byte),
+        Class::Column2 => wait_for(designator_of(byte)),
+        Class::Above => escape(final_of(byte)),
     }
 }
 
-pub fn in_designation(element: Element, sets: Sets, byte: u8) -> Reacted
-    ensures { λ r. ⌜ ((f st : List ℕ) → reactionOf r f st ≡ reactTo (Waiting.Designator element) (classOf byte) (codingOf sets (Waiting.Designator element) f) st byte) ⌝ }
+pub fn in_designation(element: Element, byte: u8) -> Reacted
+    ensures { λ r. ⌜ ((s : Sets) (f st : List ℕ) → reactionOf s r f st ≡ reactTo (Waiting.Designator element) (classOf byte) (codingOf s (Waiting.Designator element) f) st byte) ⌝ }
 {
     match class_of(byte) {
-        Class::Below(k) => control(k, sets, byte),
-        Class::Column2 => wait_for(sets, Waiting::Longer),
-        Class::Above => designation(designated_by(byte), element, sets),
+        Class::Below(k) => control(k, byte),
+        Class::Column2 => wait_for(Waiting::Longer),
+        Class::Above => designation(designated_by(byte), element),
     }
 }
 
 // A longer sequence has no meaning; its end is looked for.
-pub fn in_longer(sets: Sets, byte: u8) -> Reacted
-    ensures { λ r. ⌜ ((f st : List ℕ) → reactionOf r f st ≡ reactTo Waiting.Longer (classOf byte) (codingOf sets Waiting.Longer f) st byte) ⌝ }
+pub fn in_longer(byte: u8) -> Reacted
+    ensures { λ r. ⌜ ((s : Sets) (f st : List ℕ) → reactionOf s r f st ≡ reactTo Waiting.Longer (classOf byte) (codingOf s Waiting.Longer f) st byte) ⌝ }
 {
     match class_of(byte) {
-        Class::Below(k) => control(k, sets, byte),
-        Class::Column2 => wait_for(sets, Waiting::Longer),
-        Class::Above => wait_for(sets, Waiting::Nothing),
+        Class::Below(k) => control(k, byte),
+        Class::Column2 => wait_for(Waiting::Longer),
+        Class::Above => wait_for(Waiting::Nothing),
     }
 }

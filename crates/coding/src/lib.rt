@@ -36,7 +36,7 @@ fn element_read(waiting: Waiting, sets: Sets) -> Element
     }
 }
 
-// A definition is stored as it is read. Where the byte is refused or calls a name, first cells and store stay as lent.
+// A definition is stored as it is read. Where the byte is refused, calls a name or changes the sets, first cells and store stay as lent.
 pub fn react(
     sets: Sets,
     waiting: Waiting,
@@ -45,19 +45,19 @@ pub fn react(
     byte: u8,
 ) -> Reacted
     requires { ⌜ (Sized (now store)) × (waitingFits waiting ≡ true) ⌝ }
-    ensures reaction { λ r. ⌜ reactionOf r (now (firsts .exit)) (now (store .exit)) ≡ react (codingOf sets waiting (now (firsts .entry))) (now (store .entry)) byte ⌝ }
+    ensures reaction { λ r. ⌜ reactionOf sets r (now (firsts .exit)) (now (store .exit)) ≡ react (codingOf sets waiting (now (firsts .entry))) (now (store .entry)) byte ⌝ }
     ensures kept { λ r. ⌜ (Kept r (now (firsts .entry)) (now (firsts .exit))) × (Kept r (now (store .entry)) (now (store .exit))) ⌝ }
 {
     if 127 < byte {
-        return refuse(sets, Refusal::ByteOver127);
+        return refuse(Refusal::ByteOver127);
     }
     match waiting {
-        Waiting::Escape => in_escape(sets, byte),
-        Waiting::Designator(element) => in_designation(element, sets, byte),
-        Waiting::Longer => in_longer(sets, byte),
-        Waiting::Name => take_name(sets, firsts, store, byte),
-        Waiting::Body(definition) => in_body(definition, sets, firsts, store, byte),
-        Waiting::BodyEscape(definition) => in_body_escape(definition, sets, firsts, store, byte),
+        Waiting::Escape => in_escape(byte),
+        Waiting::Designator(element) => in_designation(element, byte),
+        Waiting::Longer => in_longer(byte),
+        Waiting::Name => take_name(firsts, store, byte),
+        Waiting::Body(definition) => in_body(definition, firsts, store, byte),
+        Waiting::BodyEscape(definition) => in_body_escape(definition, firsts, store, byte),
         _ => read_from(element_read(waiting, sets), sets, byte),
     }
 }

@@ -1,64 +1,95 @@
-// What a byte did: its effect, and the state after it. First cells and store are lent beside.
+// What a byte did: its effect, and what is waited for after it. Sets, first cells and store are beside.
 use rules::Action;
+use rules::Element;
 use rules::Refusal;
+use rules::Set;
 use rules::Sets;
 use rules::Waiting;
+use tables::sets::designate;
+use tables::sets::in_use;
 ghost use mathlib.Core.List.{List};
 ghost use mathlib.Core.Path.{_≡_};
 ghost use Prim.Native.Nat.{ℕ};
-ghost use Rattle.rules.specs.Coding.{Refuse, Call, React};
-ghost use Rattle.coding.specs.View.{codingOf, reactionOf};
+ghost use Rattle.rules.specs.Coding.{Refuse, Call, React, inUse, designate};
+ghost use Rattle.coding.specs.View.{codingOf, setsAfter, reactionOf, Kept};
 
+// Nearly every byte leaves the sets as they are. The last two say what changes of them, and ask nothing of drawing.
 pub enum Effect {
     Refuses(Refusal),
     Calls(u8),
     Acts(Action),
+    Uses(Element),
+    Designates(Element, Set),
 }
 
-// After a refusal the state says nothing.
+// After a refusal what is waited for says nothing.
 pub struct Reacted {
     pub effect: Effect,
-    pub sets: Sets,
     pub waiting: Waiting,
 }
 
-pub fn refuse(sets: Sets, refusal: Refusal) -> Reacted
-    ensures { λ r. ⌜ ((f st : List ℕ) → reactionOf r f st ≡ Refuse refusal) ⌝ }
+pub fn sets_after(effect: Effect, sets: Sets) -> Sets
+    ensures { λ r. ⌜ r ≡ setsAfter effect sets ⌝ }
+{
+    match effect {
+        Effect::Uses(element) => in_use(element, sets),
+        Effect::Designates(element, set) => designate(element, set, sets),
+        _ => sets,
+    }
+}
+
+pub fn refuse(refusal: Refusal) -> Reacted
+    ensures { λ r. ⌜ ((s : Sets) (f st : List ℕ) → reactionOf s r f st ≡ Refuse refusal) ⌝ }
 {
     Reacted {
         effect: Effect::Refuses(refusal),
-        sets,
         waiting: Waiting::Nothing,
     }
 }
 
-// Asks nothing of drawing.
-pub fn wait_for(sets: Sets, waiting: Waiting) -> Reacted
-    ensures { λ r. ⌜ ((f st : List ℕ) → reactionOf r f st ≡ React (codingOf sets waiting f) st Action.Idle) ⌝ }
+// Asks nothing of drawing. A definition may have changed first cells and store.
+pub fn wait_for(waiting: Waiting) -> Reacted
+    ensures reaction { λ r. ⌜ ((s : Sets) (f st : List ℕ) → reactionOf s r f st ≡ React (codingOf s waiting f) st Action.Idle) ⌝ }
+    ensures kept { λ r. ⌜ ((lent left : List ℕ) → Kept r lent left) ⌝ }
 {
     Reacted {
         effect: Effect::Acts(Action::Idle),
-        sets,
         waiting,
     }
 }
 
-pub fn act(sets: Sets, action: Action) -> Reacted
-    ensures { λ r. ⌜ ((f st : List ℕ) → reactionOf r f st ≡ React (codingOf sets Waiting.Nothing f) st action) ⌝ }
+pub fn act(action: Action) -> Reacted
+    ensures { λ r. ⌜ ((s : Sets) (f st : List ℕ) → reactionOf s r f st ≡ React (codingOf s Waiting.Nothing f) st action) ⌝ }
 {
     Reacted {
         effect: Effect::Acts(action),
-        sets,
         waiting: Waiting::Nothing,
     }
 }
 
-pub fn call(sets: Sets, name: u8) -> Reacted
-    ensures { λ r. ⌜ ((f st : List ℕ) → reactionOf r f st ≡ Call (codingOf sets Waiting.Nothing f) name) ⌝ }
+pub fn call(name: u8) -> Reacted
+    ensures { λ r. ⌜ ((s : Sets) (f st : List ℕ) → reactionOf s r f st ≡ Call (codingOf s Waiting.Nothing f) name) ⌝ }
 {
     Reacted {
         effect: Effect::Calls(name),
-        sets,
+        waiting: Waiting::Nothing,
+    }
+}
+
+pub fn use_element(element: Element) -> Reacted
+    ensures { λ r. ⌜ ((s : Sets) (f st : List ℕ) → reactionOf s r f st ≡ React (codingOf (inUse element s) Waiting.Nothing f) st Action.Idle) ⌝ }
+{
+    Reacted {
+        effect: Effect::Uses(element),
+        waiting: Waiting::Nothing,
+    }
+}
+
+pub fn designate_set(element: Element, set: Set) -> Reacted
+    ensures { λ r. ⌜ ((s : Sets) (f st : List ℕ) → reactionOf s r f st ≡ React (codingOf (designate element set s) Waiting.Nothing f) st Action.Idle) ⌝ }
+{
+    Reacted {
+        effect: Effect::Designates(element, set),
         waiting: Waiting::Nothing,
     }
 }

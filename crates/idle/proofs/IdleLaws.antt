@@ -25,9 +25,9 @@ use Rattle.rules.specs.Ranges.{waitingFits}
 use Rattle.rules.specs.Store.{Filling, Stored, storeByte}
 use Rattle.macros.specs.Runs.{Plain, Stores, none as stored-none, more as stored-more}
 use Rattle.idle.specs.Idle.{Coded, coded, Idle, none, more, idleAction, idleEffect}
-use Rattle.coding.specs.View.{codingOf, effectOn, reactionOf, KeptBy, Kept}
+use Rattle.coding.specs.View.{codingOf, effectOn, setsAfter, reactionOf, KeptBy, Kept}
 use Rattle.coding.specs.declared.reactions.Effect.{Effect}
-use Rattle.coding.specs.declared.reactions.Effect.the-variants.{Refuses, Calls, Acts}
+use Rattle.coding.specs.declared.reactions.Effect.the-variants.{Refuses, Calls, Acts, Uses, Designates}
 use Rattle.coding.specs.declared.reactions.Reacted.{Reacted}
 use Rattle.coding.proofs.EffectLaws.{act-kept}
 
@@ -106,11 +106,16 @@ unfolding idleEffect
 idle-effect (Refuses r) c st h = false-true h
 idle-effect (Calls n) c st h = false-true h
 idle-effect (Acts a) c st h = ap (React c st) (idle-action a h)
+idle-effect (Uses e) c st h = refl
+idle-effect (Designates e x) c st h = refl
 
 -- A byte that is idle, and one that is not
-module _ (s : Sets) (w : Waiting) (f st : List ℕ) (b : ℕ) (r : Reacted) (f₁ st₁ : List ℕ) (e : reactionOf r f₁ st₁ ≡ react (codingOf s w f) st b) where
-  pub idle-reacts : idleEffect (r .effect) ≡ true → react (codingOf s w f) st b ≡ React (codingOf (r .sets) (r .waiting) f₁) st₁ Idle·action
-  idle-reacts h = sym e ∙ idle-effect (r .effect) (codingOf (r .sets) (r .waiting) f₁) st₁ h
+module _ (s : Sets) (w : Waiting) (f st : List ℕ) (b : ℕ) (r : Reacted) (f₁ st₁ : List ℕ) (e : reactionOf s r f₁ st₁ ≡ react (codingOf s w f) st b) where
+  abbrev after : Coding
+  after = codingOf (setsAfter (r .effect) s) (r .waiting) f₁
+
+  pub idle-reacts : idleEffect (r .effect) ≡ true → react (codingOf s w f) st b ≡ React after st₁ Idle·action
+  idle-reacts h = sym e ∙ idle-effect (r .effect) after st₁ h
 
   pub busy-keeps : idleEffect (r .effect) ≡ false → (Kept r f f₁) × (Kept r st st₁) → (f₁ ≡ f) × (st₁ ≡ st)
   unfolding idleEffect idleAction
@@ -124,3 +129,5 @@ module _ (s : Sets) (w : Waiting) (f st : List ℕ) (b : ℕ) (r : Reacted) (f�
       by (Refuses z) q n p = p
       by (Calls m) q n p = p
       by (Acts a) q n p = acts a n (act-kept (codingOf s w f) st b r f₁ st₁ e a q)
+      by (Uses x) q n p = p
+      by (Designates x y) q n p = p

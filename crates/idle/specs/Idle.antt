@@ -9,7 +9,7 @@ use Rattle.rules.specs.declared.Action.the-variants.{Idle as Idle·action, Clos
 use Rattle.rules.specs.declared.Coding.{Coding}
 use Rattle.rules.specs.Coding.{React, react}
 use Rattle.coding.specs.declared.reactions.Effect.{Effect}
-use Rattle.coding.specs.declared.reactions.Effect.the-variants.{Refuses, Calls, Acts}
+use Rattle.coding.specs.declared.reactions.Effect.the-variants.{Refuses, Calls, Acts, Uses, Designates}
 
 -- The state of the coding layer, and the store
 pub record Coded : Type 0 where
@@ -39,3 +39,5 @@ unfoldable pub idleEffect : Effect → Bool
 idleEffect (Refuses r) = false
 idleEffect (Calls n) = false
 idleEffect (Acts a) = idleAction a
+idleEffect (Uses e) = true
+idleEffect (Designates e x) = true

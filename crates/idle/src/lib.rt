@@ -4,6 +4,7 @@ pub mod definitions;
 use crate::definitions::run_definition;
 use coding::react;
 use coding::reactions::Effect;
+use coding::reactions::sets_after;
 use rules::Action;
 use rules::Sets;
 use rules::Waiting;
@@ -33,6 +34,8 @@ fn is_idle(effect: Effect) -> bool
             Action::Idle => true,
             _ => false,
         },
+        Effect::Uses(_) => true,
+        Effect::Designates(_, _) => true,
     }
 }
 
@@ -96,7 +99,7 @@ pub fn run_idle(
                 waiting,
             };
         }
-        sets = reacted.sets;
+        sets = sets_after(effect, sets);
         waiting = reacted.waiting;
         count += 1;
     }

@@ -38,7 +38,8 @@ use Rattle.figures.specs.declared.Drawn.{Drawn}
 use Rattle.figures.specs.Carried.{Carried, carry, drawingOf, carriedOf}
 use Rattle.drawing.proofs.Refusals.{OnlyVertices, act-vertices}
 use Rattle.bodies.specs.Stack.{bodiesOf}
-use Rattle.coding.specs.View.{codingOf, reactionOf, Kept}
+use Rattle.coding.specs.View.{codingOf, effectOn, setsAfter, reactionOf, Kept}
+use Rattle.coding.specs.declared.reactions.Effect.{Effect}
 use Rattle.coding.specs.declared.reactions.Effect.the-variants.{Refuses, Calls, Acts}
 use Rattle.coding.specs.declared.reactions.Reacted.{Reacted}
 use Rattle.coding.proofs.EffectLaws.{act-kept}
@@ -224,13 +225,18 @@ module _ (budget : ℕ) (p : Progress) (cells places firsts : List ℕ) (d : Dra
   unfolding interpreted interpret onMove leaves
   byte-inside r e h = rw (e, h)
 
-  module _ (h : opensInside (sourceAt (p .depth)) (p .waiting) b ≡ false) (m : Reacted) (firsts₁ st₁ : List ℕ) (e : reactionOf m firsts₁ st₁ ≡ reaction) where
+  module _ (h : opensInside (sourceAt (p .depth)) (p .waiting) b ≡ false) (m : Reacted) (firsts₁ st₁ : List ℕ) (e : reactionOf (p .sets) m firsts₁ st₁ ≡ reaction) (s : Sets) (es : s ≡ setsAfter (m .effect) (p .sets)) where
     abbrev reacted : State
     reacted = stateAt budget p cells places firsts₁ d st₁
 
-    reacts : (c : Reaction) (l : Left) → c ≡ reaction → l ≡ leavesBy (onReaction c) entry → Answers l
+    abbrev after : Coding
+    after = codingOf s (m .waiting) firsts₁
+
+    reacts : (y : Effect) (c : Reaction) (l : Left) → m .effect ≡ y → c ≡ effectOn y after st₁ → l ≡ leavesBy (onReaction c) entry → Answers l
     unfolding interpreted interpret
-    reacts c l f q = rw (h, ← f) q
+    reacts y c l t f q =
+        let r : effectOn y after st₁ ≡ reaction = rw (← t, es) e in
+        rw (h, ← r, ← f) q
 
     pub byte-refused : (x : Refusal) → m .effect ≡ Refuses x → (Kept m firsts firsts₁) × (Kept m st st₁) → (r : Turned) → r ≡ stops p x
         → Answers (leftOf budget p r cells places firsts₁ d st₁ out)
@@ -238,29 +244,33 @@ module _ (budget : ℕ) (p : Progress) (cells places firsts : List ℕ) (d : Dra
     byte-refused x t k r q =
         let f : firsts₁ ≡ firsts = rw t at (k .0) in
         let g : st₁ ≡ st = rw t at (k .1) in
-        reacts (Refuse x) _ (rw t at e) (rw (q, f, g))
+        reacts (Refuses x) (Refuse x) _ t refl (rw (q, f, g))
 
     -- First cells and store as lent: the step was from there
     as-lent : (k : State → Move) → firsts₁ ≡ firsts → st₁ ≡ st → leavesBy k reacted ≡ leavesBy k entry
     as-lent k f g = rw (f, g)
 
     pub byte-calls : (name : ℕ) → m .effect ≡ Calls name → (Kept m firsts firsts₁) × (Kept m st st₁) → (l : Left)
-        → l ≡ leavesBy (call name (codingOf (m .sets) (m .waiting) firsts₁)) reacted → Answers l
+        → l ≡ leavesBy (call name after) reacted → Answers l
     unfolding onReaction
     byte-calls name t k l q =
-        let c = codingOf (m .sets) (m .waiting) firsts₁ in
-        reacts (Call c name) l (rw t at e) (q ∙ as-lent (call name c) (rw t at (k .0)) (rw t at (k .1)))
+        reacts (Calls name) (Call after name) l t refl (q ∙ as-lent (call name after) (rw t at (k .0)) (rw t at (k .1)))
 
     -- An action that asks nothing of drawing is not refused, so the state before it does not matter
     idle-anywhere : (a : Action) (c : Coding) → a ≡ Idle → leavesBy (onOutcome (act a d) c st₁) reacted ≡ leavesBy (onOutcome (act a d) c st₁) entry
     unfolding act onOutcome onMove
     idle-anywhere a c k = rw k
 
-    pub byte-acts : (a : Action) → m .effect ≡ Acts a → (l : Left)
-        → l ≡ leavesBy (onOutcome (act a d) (codingOf (m .sets) (m .waiting) firsts₁) st₁) reacted → Answers l
+    pub byte-acts : (a : Action) → m .effect ≡ Acts a → (l : Left) → l ≡ leavesBy (onOutcome (act a d) after st₁) reacted → Answers l
     unfolding onReaction
     byte-acts a t l q = by (act-kept (codingOf (p .sets) (p .waiting) firsts) st b m firsts₁ st₁ e a t)
       where
         by : ((firsts₁ ≡ firsts) × (st₁ ≡ st)) ⊎ (a ≡ Idle) → Answers l
-        by (inl k) = reacts (React (codingOf (m .sets) (m .waiting) firsts₁) st₁ a) l (rw t at e) (q ∙ as-lent (onOutcome (act a d) (codingOf (m .sets) (m .waiting) firsts₁) st₁) (k .0) (k .1))
-        by (inr k) = reacts (React (codingOf (m .sets) (m .waiting) firsts₁) st₁ a) l (rw t at e) (q ∙ idle-anywhere a (codingOf (m .sets) (m .waiting) firsts₁) k)
+        by (inl k) = reacts (Acts a) (React after st₁ a) l t refl (q ∙ as-lent (onOutcome (act a d) after st₁) (k .0) (k .1))
+        by (inr k) = reacts (Acts a) (React after st₁ a) l t refl (q ∙ idle-anywhere a after k)
+
+    -- A change of the sets asks nothing of drawing
+    pub byte-idle : (y : Effect) → m .effect ≡ y → React after st₁ Idle ≡ effectOn y after st₁ → (l : Left)
+        → l ≡ leavesBy (onOutcome (act Idle d) after st₁) reacted → Answers l
+    unfolding onReaction
+    byte-idle y t f l q = reacts y (React after st₁ Idle) l t f (q ∙ idle-anywhere Idle after refl)

@@ -3,7 +3,7 @@ use bodies::MOST_DEPTH;
 use bodies::set_body;
 use coding::react;
 use coding::reactions::Effect;
-use coding::reactions::Reacted;
+use coding::reactions::sets_after;
 use drawing::act;
 use figures::Drawn;
 use macros::names::first_of;
@@ -76,12 +76,10 @@ pub fn ends(progress: Progress, answer: Answer) -> Turned
 }
 
 // How an accepted step leaves the progress: it counts.
-fn counted(progress: Progress, at: usize, depth: u8, reacted: Reacted) -> Progress
+fn counted(progress: Progress, at: usize, depth: u8, sets: Sets, waiting: Waiting) -> Progress
     requires { ⌜ progress .steps < 4294967295 ⌝ }
-    ensures { λ r. ⌜ r ≡ stepsTo at depth (reacted .sets) (reacted .waiting) progress ⌝ }
+    ensures { λ r. ⌜ r ≡ stepsTo at depth sets waiting progress ⌝ }
 {
-    let sets = reacted.sets;
-    let waiting = reacted.waiting;
     Progress {
         at,
         written: progress.written,
@@ -117,13 +115,14 @@ fn call(
     progress: Progress,
     onward: Onward,
     name: u8,
-    reacted: Reacted,
+    sets: Sets,
+    waiting: Waiting,
     cells: &mut [u8; 8],
     places: &mut [u8; 8],
     firsts: &[u8; 96],
 ) -> Turned
     requires { ⌜ (Ready progress (onward .at)) × (IsName name) ⌝ }
-    ensures left { λ r. ⌜ ((budget : ℕ) (d : Drawing) (st out : List ℕ) → leftOf budget progress r (now (cells .exit)) (now (places .exit)) (now (firsts .entry)) d st out ≡ leaves (stepBy (progress .depth) (onward .cursor) (call name (codingOf (reacted .sets) (reacted .waiting) (now (firsts .entry)))) (stateAt budget progress (now (cells .entry)) (now (places .entry)) (now (firsts .entry)) d st)) (progress .at) (progress .written) out) ⌝ }
+    ensures left { λ r. ⌜ ((budget : ℕ) (d : Drawing) (st out : List ℕ) → leftOf budget progress r (now (cells .exit)) (now (places .exit)) (now (firsts .entry)) d st out ≡ leaves (stepBy (progress .depth) (onward .cursor) (call name (codingOf sets waiting (now (firsts .entry)))) (stateAt budget progress (now (cells .entry)) (now (places .entry)) (now (firsts .entry)) d st)) (progress .at) (progress .written) out) ⌝ }
     ensures due { λ r. ⌜ Due progress r ⌝ }
 {
     let depth = progress.depth;
@@ -136,7 +135,7 @@ fn call(
     set_body(cells, places, depth, Cursor { cell, place: 0 });
     Turned {
         course: Course::GoesOn,
-        progress: counted(progress, onward.at, depth + 1, reacted),
+        progress: counted(progress, onward.at, depth + 1, sets, waiting),
         cursor: NOWHERE,
     }
 }
@@ -145,12 +144,13 @@ fn call(
 fn idle(
     progress: Progress,
     onward: Onward,
-    reacted: Reacted,
+    sets: Sets,
+    waiting: Waiting,
     cells: &mut [u8; 8],
     places: &mut [u8; 8],
 ) -> Turned
     requires { ⌜ Ready progress (onward .at) ⌝ }
-    ensures left { λ r. ⌜ ((budget : ℕ) (d : Drawing) (firsts st out : List ℕ) → leftOf budget progress r (now (cells .exit)) (now (places .exit)) firsts d st out ≡ leaves (stepBy (progress .depth) (onward .cursor) (onOutcome (act Action.Idle d) (codingOf (reacted .sets) (reacted .waiting) firsts) st) (stateAt budget progress (now (cells .entry)) (now (places .entry)) firsts d st)) (progress .at) (progress .written) out) ⌝ }
+    ensures left { λ r. ⌜ ((budget : ℕ) (d : Drawing) (firsts st out : List ℕ) → leftOf budget progress r (now (cells .exit)) (now (places .exit)) firsts d st out ≡ leaves (stepBy (progress .depth) (onward .cursor) (onOutcome (act Action.Idle d) (codingOf sets waiting firsts) st) (stateAt budget progress (now (cells .entry)) (now (places .entry)) firsts d st)) (progress .at) (progress .written) out) ⌝ }
     ensures due { λ r. ⌜ Due progress r ⌝ }
 {
     let depth = progress.depth;
@@ -158,21 +158,21 @@ fn idle(
     read_on(cells, places, depth, cursor);
     Turned {
         course: Course::GoesOn,
-        progress: counted(progress, onward.at, depth, reacted),
+        progress: counted(progress, onward.at, depth, sets, waiting),
         cursor: NOWHERE,
     }
 }
 
 // The body is read on once the action is drawn.
-fn draws(progress: Progress, onward: Onward, action: Action, reacted: Reacted) -> Turned
+fn draws(progress: Progress, onward: Onward, action: Action, sets: Sets, waiting: Waiting) -> Turned
     requires { ⌜ Ready progress (onward .at) ⌝ }
-    ensures left { λ r. ⌜ ((budget : ℕ) (cells places firsts : List ℕ) (d : Drawing) (st out : List ℕ) → leftOf budget progress r cells places firsts d st out ≡ leaves (stepBy (progress .depth) (onward .cursor) (onOutcome (act action d) (codingOf (reacted .sets) (reacted .waiting) firsts) st) (stateAt budget progress cells places firsts d st)) (progress .at) (progress .written) out) ⌝ }
+    ensures left { λ r. ⌜ ((budget : ℕ) (cells places firsts : List ℕ) (d : Drawing) (st out : List ℕ) → leftOf budget progress r cells places firsts d st out ≡ leaves (stepBy (progress .depth) (onward .cursor) (onOutcome (act action d) (codingOf sets waiting firsts) st) (stateAt budget progress cells places firsts d st)) (progress .at) (progress .written) out) ⌝ }
     ensures due { λ r. ⌜ Due progress r ⌝ }
 {
     let cursor = onward.cursor;
     Turned {
         course: Course::Draws(action),
-        progress: counted(progress, onward.at, progress.depth, reacted),
+        progress: counted(progress, onward.at, progress.depth, sets, waiting),
         cursor,
     }
 }
@@ -181,17 +181,18 @@ fn ask(
     progress: Progress,
     onward: Onward,
     action: Action,
-    reacted: Reacted,
+    sets: Sets,
+    waiting: Waiting,
     cells: &mut [u8; 8],
     places: &mut [u8; 8],
 ) -> Turned
     requires { ⌜ Ready progress (onward .at) ⌝ }
-    ensures left { λ r. ⌜ ((budget : ℕ) (d : Drawing) (firsts st out : List ℕ) → leftOf budget progress r (now (cells .exit)) (now (places .exit)) firsts d st out ≡ leaves (stepBy (progress .depth) (onward .cursor) (onOutcome (act action d) (codingOf (reacted .sets) (reacted .waiting) firsts) st) (stateAt budget progress (now (cells .entry)) (now (places .entry)) firsts d st)) (progress .at) (progress .written) out) ⌝ }
+    ensures left { λ r. ⌜ ((budget : ℕ) (d : Drawing) (firsts st out : List ℕ) → leftOf budget progress r (now (cells .exit)) (now (places .exit)) firsts d st out ≡ leaves (stepBy (progress .depth) (onward .cursor) (onOutcome (act action d) (codingOf sets waiting firsts) st) (stateAt budget progress (now (cells .entry)) (now (places .entry)) firsts d st)) (progress .at) (progress .written) out) ⌝ }
     ensures due { λ r. ⌜ Due progress r ⌝ }
 {
     match action {
-        Action::Idle => idle(progress, onward, reacted, cells, places),
-        _ => draws(progress, onward, action, reacted),
+        Action::Idle => idle(progress, onward, sets, waiting, cells, places),
+        _ => draws(progress, onward, action, sets, waiting),
     }
 }
 
@@ -216,10 +217,14 @@ pub fn interpret(
     }
     let reacted = react(sets, waiting, firsts, store, byte);
     let effect = reacted.effect;
+    let sets = sets_after(effect, sets);
+    let waiting = reacted.waiting;
     match effect {
         Effect::Refuses(refusal) => ends(progress, Answer::Refused(refusal)),
-        Effect::Calls(name) => call(progress, onward, name, reacted, cells, places, firsts),
-        Effect::Acts(action) => ask(progress, onward, action, reacted, cells, places),
+        Effect::Calls(name) => call(progress, onward, name, sets, waiting, cells, places, firsts),
+        Effect::Acts(action) => ask(progress, onward, action, sets, waiting, cells, places),
+        Effect::Uses(_) => idle(progress, onward, sets, waiting, cells, places),
+        Effect::Designates(_, _) => idle(progress, onward, sets, waiting, cells, places),
     }
 }
 

@@ -2,7 +2,8 @@ use mathlib.Core.Path.{refl, _∙_}
 use Rattle.rules.specs.declared.Waiting.the-variants.{Escape, Designator, Longer, Name, Body, BodyEscape}
 use Rattle.rules.specs.Coding.{reactTo}
 use Rattle.rules.specs.Ranges.{waitingFits}
-use Rattle.coding.proofs.ReactLaws.{is-name, others-read, over, inside, outside}
+use Rattle.coding.proofs.Answers.{unchanged}
+use Rattle.coding.proofs.ReactLaws.{is-name, others-read, over, inside}
 use borrow.Author.Needs.{needs}
 use Rattle.coding.proofs.react.Statement.{statement}
 use Rattle.coding.proofs.react.Tie as tie
@@ -11,7 +12,7 @@ returns : tie.Need-returns
 returns c =
     let refuse· = c .refuse in
     let if1· = c .before .if1 in
-    over _ _ _ _ _ (refuse· .result) (if1· .taken) (refuse· .ensures _ _)
+    (refuse· .ensures _ _ _ ∙ over _ _ _ (if1· .taken), unchanged (refuse· .result) _ _)
 
 in-body-requires : tie.Need-in-body-requires
 unfolding waitingFits
@@ -32,28 +33,30 @@ returns-2 c =
     let in-escape· = c .in-escape in
     let if1· = c .before .before .before .if1 in
     let enum-told· = c .before .enum-told in
-    outside _ _ _ _ _ (in-escape· .result) (if1· .left) Escape (enum-told· .given .1) (in-escape· .ensures _ _)
+    (in-escape· .ensures _ _ _ ∙ inside _ _ _ _ _ (if1· .left) Escape (enum-told· .given .1), unchanged (in-escape· .result) _ _)
 
 returns-3 : tie.Need-returns-3
 returns-3 c =
     let in-designation· = c .in-designation in
     let if1· = c .before .before .before .before .if1 in
-    let waiting· = c .before .before .waiting in
-    outside _ _ _ _ _ (in-designation· .result) (if1· .left) (Designator _) (waiting· .given .1) (in-designation· .ensures _ _)
+    let waiting· = c .before .before .waiting in (
+      in-designation· .ensures _ _ _ ∙ inside _ _ _ _ _ (if1· .left) (Designator _) (waiting· .given .1),
+      unchanged (in-designation· .result) _ _,
+    )
 
 returns-4 : tie.Need-returns-4
 returns-4 c =
     let in-longer· = c .in-longer in
     let if1· = c .before .before .before .if1 in
     let enum-told2· = c .before .enum-told2 in
-    outside _ _ _ _ _ (in-longer· .result) (if1· .left) Longer (enum-told2· .given .1) (in-longer· .ensures _ _)
+    (in-longer· .ensures _ _ _ ∙ inside _ _ _ _ _ (if1· .left) Longer (enum-told2· .given .1), unchanged (in-longer· .result) _ _)
 
 returns-5 : tie.Need-returns-5
 returns-5 c =
     let take-name· = c .before .before .take-name in
     let if1· = c .before .before .before .before .before .before .before .if1 in
     let enum-told3· = c .before .before .before .before .before .enum-told3 in
-    inside _ _ _ _ _ (take-name· .result) (if1· .left) Name (enum-told3· .given .1) _ _ (take-name· .ensures)
+    (take-name· .ensures .0 _ ∙ inside _ _ _ _ _ (if1· .left) Name (enum-told3· .given .1), take-name· .ensures .1)
 
 returns-6 : tie.Need-returns-6
 unfolding reactTo
@@ -61,24 +64,28 @@ returns-6 c =
     let in-body· = c .before .before .in-body in
     let if1· = c .before .before .before .before .before .before .before .before .if1 in
     let waiting2· = c .before .before .before .before .before .before .waiting2 in
-    inside _ _ _ _ _ (in-body· .result) (if1· .left) (Body _) (waiting2· .given .1) _ _ (in-body· .ensures)
+    (in-body· .ensures .0 _ ∙ inside _ _ _ _ _ (if1· .left) (Body _) (waiting2· .given .1), in-body· .ensures .1)
 
 returns-7 : tie.Need-returns-7
 unfolding reactTo
 returns-7 c =
     let in-body-escape· = c .before .before .in-body-escape in
     let if1· = c .before .before .before .before .before .before .before .before .if1 in
-    let waiting3· = c .before .before .before .before .before .before .waiting3 in
-    inside _ _ _ _ _ (in-body-escape· .result) (if1· .left) (BodyEscape _) (waiting3· .given .1) _ _ (in-body-escape· .ensures)
+    let waiting3· = c .before .before .before .before .before .before .waiting3 in (
+      in-body-escape· .ensures .0 _ ∙ inside _ _ _ _ _ (if1· .left) (BodyEscape _) (waiting3· .given .1),
+      in-body-escape· .ensures .1,
+    )
 
 returns-8 : tie.Need-returns-8
 returns-8 c =
     let read-from· = c .read-from in
-    let if1· = c .before .before .before .if1 in
     let args· = c .before .before .before .before .before .args in
     let match· = c .before .before .match in
     let element-read· = c .before .element-read in
-    outside _ _ _ _ _ (read-from· .result) (if1· .left) _ refl (read-from· .ensures (args· .waiting) _ _ ∙ others-read _ _ _ _ _ _ (match· .keys7) (element-read· .ensures))
+    let if1· = c .before .before .before .if1 in (
+      read-from· .ensures (args· .waiting) _ _ ∙ others-read _ _ _ _ _ _ (match· .keys7) (element-read· .ensures) ∙ inside _ _ _ _ _ (if1· .left) _ refl,
+      unchanged (read-from· .result) _ _,
+    )
 
 pub react-spec : {M : Type 1} → statement M
 react-spec =

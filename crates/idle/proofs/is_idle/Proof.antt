@@ -17,6 +17,12 @@ enum-known-effect c = search needs
 enum-told-3 : tie.Need-enum-told-3
 enum-told-3 c = search needs
 
+enum-told-4 : tie.Need-enum-told-4
+enum-told-4 c = search needs
+
+enum-told-5 : tie.Need-enum-told-5
+enum-told-5 c = search needs
+
 returns : tie.Need-returns
 unfolding idleEffect
 returns c =
@@ -43,6 +49,18 @@ returns-4 c =
     let match2· = c .match2 in
     rw (effect· .given .1) (others-act _ (match2· .keys2))
 
+returns-5 : tie.Need-returns-5
+unfolding idleEffect
+returns-5 c =
+    let enum-told4· = c .enum-told4 in
+    rw (enum-told4· .given .1) refl
+
+returns-6 : tie.Need-returns-6
+unfolding idleEffect
+returns-6 c =
+    let enum-told5· = c .enum-told5 in
+    rw (enum-told5· .given .1) refl
+
 pub is-idle-spec : {M : Type 1} → statement M
 is-idle-spec =
     tie.close
@@ -51,7 +69,11 @@ is-idle-spec =
     enum-told-2
     enum-known-effect
     enum-told-3
+    enum-told-4
+    enum-told-5
     returns
     returns-2
     returns-3
-    returns-4)
+    returns-4
+    returns-5
+    returns-6)

@@ -100,6 +100,9 @@ returns-2 c =
     let ran = idle-still _ _ _ _ _ _ _ _ _ _ _ _ _ (if1· .left) (run-definition· .ensures .0 _) (loop· .inv .2) in
     (rw (kept .0, kept .1) ran, loop· .inv .0)
 
+sets-after-requires : tie.Need-sets-after-requires Inv-loop μ-loop
+sets-after-requires c κs = tt
+
 add-count-2 : tie.Need-add-count-2 Inv-loop μ-loop
 add-count-2 c =
     let may-be-idle· = c .before .before .before .before .before .before .before .before .before .before .may-be-idle in
@@ -123,11 +126,12 @@ loop-again-2 c =
     let may-be-idle· = c .before .before .before .before .before .before .before .before .before .before .may-be-idle in
     let if2· = c .before .before .before .before .before .before .before .before .before .if2 in
     let react· = c .before .before .before .before .before .react in
+    let sets-after· = c .sets-after in
     let idle = sym (is-idle· .ensures) ∙ not-false (is-idle· .result) (if3· .left) in
     let ran = idle-still _ _ _ _ _ _ _ _ _ _ _ _ _ (if1· .left) (run-definition· .ensures .0 _) (loop· .inv .2) in (
       omega (arith, may-be-idle· .ensures (not-false (may-be-idle· .result) (if2· .left))),
       search needs,
-      idle-on _ _ _ _ _ _ _ ran (idle-reacts _ _ _ _ _ (react· .result) _ _ (react· .ensures .0) idle),
+      rw (sets-after· .ensures) (idle-on _ _ _ _ _ _ _ ran (idle-reacts _ _ _ _ _ (react· .result) _ _ (react· .ensures .0) idle)),
     )
 
 pub run-idle-spec : {M : Type 1} → statement M
@@ -152,6 +156,7 @@ run-idle-spec =
     is-idle-requires
     same-length-2
     returns-2
+    sets-after-requires
     add-count-2
     loop-less-2
     loop-again-2)

@@ -9,21 +9,21 @@ returns c =
     let set· = c .before .before .before .set in
     let character· = c .before .character in
     let act· = c .act in
-    λ f st. rw (set· .given .1, ← character· .ensures) (act· .ensures f st)
+    λ s f st. rw (set· .given .1, ← character· .ensures) (act· .ensures s f st)
 
 returns-2 : tie.Need-returns-2
 unfolding graphic
 returns-2 c =
     let enum-told· = c .before .enum-told in
     let pdi· = c .pdi in
-    λ f st. rw (enum-told· .given .1) (pdi· .ensures f st)
+    λ s f st. rw (enum-told· .given .1) (pdi· .ensures s f st)
 
 returns-3 : tie.Need-returns-3
 unfolding graphic
 returns-3 c =
     let enum-told2· = c .before .enum-told2 in
     let call· = c .call in
-    λ f st. rw (enum-told2· .given .1) (call· .ensures f st)
+    λ s f st. rw (enum-told2· .given .1) (call· .ensures s f st)
 
 pub graphic-spec : {M : Type 1} → statement M
 graphic-spec =

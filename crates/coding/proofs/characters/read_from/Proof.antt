@@ -9,7 +9,7 @@ returns c =
     let class-of· = c .before .before .before .before .class-of in
     let k· = c .before .before .k in
     let control· = c .control in
-    λ w f st. rw (← class-of· .ensures, k· .given .1) (control· .ensures f st)
+    λ w f st. rw (← class-of· .ensures, k· .given .1) (control· .ensures _ f st)
 
 returns-2 : tie.Need-returns-2
 unfolding readFrom
@@ -18,7 +18,7 @@ returns-2 c =
     let enum-told· = c .before .before .enum-told in
     let set-of· = c .before .set-of in
     let graphic· = c .graphic in
-    λ w f st. rw (← class-of· .ensures, enum-told· .given .1, ← set-of· .ensures) (graphic· .ensures f st)
+    λ w f st. rw (← class-of· .ensures, enum-told· .given .1, ← set-of· .ensures) (graphic· .ensures _ f st)
 
 returns-3 : tie.Need-returns-3
 unfolding readFrom
@@ -27,7 +27,7 @@ returns-3 c =
     let enum-told2· = c .before .before .enum-told2 in
     let set-of2· = c .before .set-of2 in
     let graphic2· = c .graphic2 in
-    λ w f st. rw (← class-of· .ensures, enum-told2· .given .1, ← set-of2· .ensures) (graphic2· .ensures f st)
+    λ w f st. rw (← class-of· .ensures, enum-told2· .given .1, ← set-of2· .ensures) (graphic2· .ensures _ f st)
 
 pub read-from-spec : {M : Type 1} → statement M
 read-from-spec =

@@ -12,15 +12,17 @@ unfolding inBody
 returns c =
     let if1· = c .before .if1 in
     let wait-for· = c .wait-for in
-    rw (eq-eqb _ _ (if1· .taken)) (unchanged (wait-for· .result) _ _ _ (wait-for· .ensures _ _))
+    (λ s. rw (eq-eqb _ _ (if1· .taken)) (wait-for· .ensures .0 s _ _), unchanged (wait-for· .result) _ _)
 
 returns-2 : tie.Need-returns-2
 unfolding inBody
 returns-2 c =
     let if1· = c .before .before .before .before .before .before .if1 in
     let store-byte· = c .before .before .before .store-byte in
-    let keep-body· = c .keep-body in
-    rw (ne-eqb _ _ (if1· .left)) (kept Body (store-byte· .result) (keep-body· .result) _ _ _ _ _ _ _ (store-byte· .ensures .0) (store-byte· .ensures .1) (keep-body· .ensures))
+    let keep-body· = c .keep-body in (
+      λ s. rw (ne-eqb _ _ (if1· .left)) (kept Body (store-byte· .result) (keep-body· .result) _ _ _ _ (store-byte· .ensures .0) (keep-body· .ensures .0) s _),
+      (keep-body· .ensures .1 _ _ (store-byte· .ensures .1 .0), keep-body· .ensures .1 _ _ (store-byte· .ensures .1 .1)),
+    )
 
 pub in-body-spec : {M : Type 1} → statement M
 in-body-spec =

@@ -7,16 +7,15 @@ returns : tie.Need-returns
 unfolding designation
 returns c =
     let enum-told· = c .before .enum-told in
-    let act· = c .act in
-    λ f st. rw (enum-told· .given .1) (act· .ensures f st)
+    let wait-for· = c .wait-for in
+    λ s f st. rw (enum-told· .given .1) (wait-for· .ensures .0 s f st)
 
 returns-2 : tie.Need-returns-2
 unfolding designation
 returns-2 c =
-    let designated· = c .before .before .before .designated in
-    let designate· = c .before .designate in
-    let act2· = c .act2 in
-    λ f st. rw (designated· .given .1, ← designate· .ensures) (act2· .ensures f st)
+    let designated· = c .before .before .designated in
+    let designate-set· = c .designate-set in
+    λ s f st. rw (designated· .given .1) (designate-set· .ensures s f st)
 
 pub designation-spec : {M : Type 1} → statement M
 designation-spec =
@@ -25,7 +24,6 @@ designation-spec =
     (λ c. search needs)
     (λ c κs. search needs)
     (λ c. search needs)
-    (λ c κs. search needs)
     (λ c κs. search needs)
     returns
     returns-2)

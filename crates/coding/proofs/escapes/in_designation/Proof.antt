@@ -9,7 +9,7 @@ returns c =
     let class-of· = c .before .before .before .before .class-of in
     let k· = c .before .before .k in
     let control· = c .control in
-    λ f st. rw (← class-of· .ensures, k· .given .1) (control· .ensures f st)
+    λ s f st. rw (← class-of· .ensures, k· .given .1) (control· .ensures s f st)
 
 returns-2 : tie.Need-returns-2
 unfolding reactTo
@@ -17,7 +17,7 @@ returns-2 c =
     let class-of· = c .before .before .before .class-of in
     let enum-told· = c .before .enum-told in
     let wait-for· = c .wait-for in
-    λ f st. rw (← class-of· .ensures, enum-told· .given .1) (wait-for· .ensures f st)
+    λ s f st. rw (← class-of· .ensures, enum-told· .given .1) (wait-for· .ensures .0 s f st)
 
 returns-3 : tie.Need-returns-3
 unfolding reactTo
@@ -26,7 +26,7 @@ returns-3 c =
     let enum-told2· = c .before .before .enum-told2 in
     let designated-by· = c .before .designated-by in
     let designation· = c .designation in
-    λ f st. rw (← class-of· .ensures, enum-told2· .given .1, ← designated-by· .ensures) (designation· .ensures f st)
+    λ s f st. rw (← class-of· .ensures, enum-told2· .given .1, ← designated-by· .ensures) (designation· .ensures s f st)
 
 pub in-designation-spec : {M : Type 1} → statement M
 in-designation-spec =

@@ -9,7 +9,7 @@ returns c =
     let class-of· = c .before .before .before .before .class-of in
     let k· = c .before .before .k in
     let control· = c .control in
-    λ f st. rw (← class-of· .ensures, k· .given .1) (control· .ensures f st)
+    λ s f st. rw (← class-of· .ensures, k· .given .1) (control· .ensures s f st)
 
 returns-2 : tie.Need-returns-2
 unfolding reactTo
@@ -18,7 +18,7 @@ returns-2 c =
     let enum-told· = c .before .before .enum-told in
     let designator-of· = c .before .designator-of in
     let wait-for· = c .wait-for in
-    λ f st. rw (← class-of· .ensures, enum-told· .given .1, ← designator-of· .ensures) (wait-for· .ensures f st)
+    λ s f st. rw (← class-of· .ensures, enum-told· .given .1, ← designator-of· .ensures) (wait-for· .ensures .0 s f st)
 
 returns-3 : tie.Need-returns-3
 unfolding reactTo
@@ -27,7 +27,7 @@ returns-3 c =
     let enum-told2· = c .before .before .enum-told2 in
     let final-of· = c .before .final-of in
     let escape· = c .escape in
-    λ f st. rw (← class-of· .ensures, enum-told2· .given .1, ← final-of· .ensures) (escape· .ensures f st)
+    λ s f st. rw (← class-of· .ensures, enum-told2· .given .1, ← final-of· .ensures) (escape· .ensures s f st)
 
 pub in-escape-spec : {M : Type 1} → statement M
 in-escape-spec =

@@ -9,7 +9,7 @@ returns c =
     let class-of· = c .before .before .before .before .class-of in
     let k· = c .before .before .k in
     let control· = c .control in
-    λ f st. rw (← class-of· .ensures, k· .given .1) (control· .ensures f st)
+    λ s f st. rw (← class-of· .ensures, k· .given .1) (control· .ensures s f st)
 
 returns-2 : tie.Need-returns-2
 unfolding reactTo
@@ -17,7 +17,7 @@ returns-2 c =
     let class-of· = c .before .before .before .class-of in
     let enum-told· = c .before .enum-told in
     let wait-for· = c .wait-for in
-    λ f st. rw (← class-of· .ensures, enum-told· .given .1) (wait-for· .ensures f st)
+    λ s f st. rw (← class-of· .ensures, enum-told· .given .1) (wait-for· .ensures .0 s f st)
 
 returns-3 : tie.Need-returns-3
 unfolding reactTo
@@ -25,7 +25,7 @@ returns-3 c =
     let class-of· = c .before .before .before .class-of in
     let enum-told2· = c .before .enum-told2 in
     let wait-for2· = c .wait-for2 in
-    λ f st. rw (← class-of· .ensures, enum-told2· .given .1) (wait-for2· .ensures f st)
+    λ s f st. rw (← class-of· .ensures, enum-told2· .given .1) (wait-for2· .ensures .0 s f st)
 
 pub in-longer-spec : {M : Type 1} → statement M
 in-longer-spec =

@@ -1,0 +1,34 @@
+use Rattle.coding.proofs.ReactLaws.{others-leave}
+use borrow.Author.Needs.{needs}
+use Rattle.coding.proofs.reactions.sets_after.Statement.{statement}
+use Rattle.coding.proofs.reactions.sets_after.Tie as tie
+
+returns : tie.Need-returns
+returns c =
+    let effect· = c .before .before .effect in
+    let in-use· = c .in-use in
+    rw (effect· .given .1) (in-use· .ensures)
+
+returns-2 : tie.Need-returns-2
+returns-2 c =
+    let effect2· = c .before .before .effect2 in
+    let designate· = c .designate in
+    rw (effect2· .given .1) (designate· .ensures)
+
+returns-3 : tie.Need-returns-3
+returns-3 c =
+    let args· = c .before .args in
+    let match· = c .match in
+    others-leave (args· .effect) _ (match· .keys3)
+
+pub sets-after-spec : {M : Type 1} → statement M
+sets-after-spec =
+    tie.close
+    (tie.spec
+    (λ c. search needs)
+    (λ c κs. search needs)
+    (λ c. search needs)
+    (λ c κs. search needs)
+    returns
+    returns-2
+    returns-3)
