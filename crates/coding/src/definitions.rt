@@ -2,6 +2,7 @@
 use crate::reactions::Reacted;
 use crate::reactions::refuse;
 use crate::reactions::wait_for;
+use macros::cells::ESC;
 use macros::chains::FreeAnswer;
 use macros::chains::free_body;
 use macros::names::first_of;
@@ -23,8 +24,6 @@ ghost use Rattle.rules.specs.Coding.{keep, openBody, inBody, innerOf, inBodyEsc
 ghost use Rattle.macros.specs.Lent.{Sized, IsName};
 ghost use Rattle.storing.specs.Storing.{storingOf, KeptIfRefused};
 ghost use Rattle.coding.specs.View.{codingOf, reactionOf, Kept};
-
-const ESC: u8 = 27;
 
 // Frees the old body of the name.
 fn open_body(firsts: &mut [u8; 96], store: &mut [u8], name: u8) -> Reacted
