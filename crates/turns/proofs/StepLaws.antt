@@ -38,7 +38,7 @@ use Rattle.figures.specs.declared.Drawn.{Drawn}
 use Rattle.figures.specs.Carried.{Carried, carry, drawingOf, carriedOf}
 use Rattle.drawing.proofs.Refusals.{OnlyVertices, act-vertices}
 use Rattle.bodies.specs.Stack.{bodiesOf}
-use Rattle.coding.specs.View.{codingOf, effectOn, setsAfter, reactionOf, Kept}
+use Rattle.coding.specs.View.{codingOf, effectOn, reactionOf, Kept}
 use Rattle.coding.specs.declared.reactions.Effect.{Effect}
 use Rattle.coding.specs.declared.reactions.Effect.the-variants.{Refuses, Calls, Acts}
 use Rattle.coding.specs.declared.reactions.Reacted.{Reacted}
@@ -48,7 +48,7 @@ use Rattle.turns.specs.declared.step.Course.the-variants.{GoesOn, Ends a
 use Rattle.turns.specs.declared.step.Progress.{Progress}
 use Rattle.turns.specs.declared.step.Turned.{Turned}
 use Rattle.turns.specs.Turn.{onMove, sourceAt, readOn, stepBy, interpreted, Left, leaves}
-use Rattle.turns.specs.View.{stateAt, stepsTo, writtenTo, answered, leftBy, leftOf, DueBy, Due, RoomBy, Ready, readOnIf}
+use Rattle.turns.specs.View.{stateAt, codingAfter, stepsTo, writtenTo, answered, leftBy, leftOf, DueBy, Due, RoomBy, Ready, readOnIf}
 
 -- 6 is for a byte from a body
 pub inside-none : (d : ℕ) (x : Waiting) (b : ℕ) → d ≡ 0 → false ≡ opensInside (sourceAt d) x b
@@ -225,17 +225,17 @@ module _ (budget : ℕ) (p : Progress) (cells places firsts : List ℕ) (d : Dra
   unfolding interpreted interpret onMove leaves
   byte-inside r e h = rw (e, h)
 
-  module _ (h : opensInside (sourceAt (p .depth)) (p .waiting) b ≡ false) (m : Reacted) (firsts₁ st₁ : List ℕ) (e : reactionOf (p .sets) m firsts₁ st₁ ≡ reaction) (s : Sets) (es : s ≡ setsAfter (m .effect) (p .sets)) where
+  module _ (h : opensInside (sourceAt (p .depth)) (p .waiting) b ≡ false) (m : Reacted) (firsts₁ st₁ : List ℕ) (e : reactionOf (p .sets) m firsts₁ st₁ ≡ reaction) where
     abbrev reacted : State
     reacted = stateAt budget p cells places firsts₁ d st₁
 
     abbrev after : Coding
-    after = codingOf s (m .waiting) firsts₁
+    after = codingAfter m p firsts₁
 
     reacts : (y : Effect) (c : Reaction) (l : Left) → m .effect ≡ y → c ≡ effectOn y after st₁ → l ≡ leavesBy (onReaction c) entry → Answers l
     unfolding interpreted interpret
     reacts y c l t f q =
-        let r : effectOn y after st₁ ≡ reaction = rw (← t, es) e in
+        let r : effectOn y after st₁ ≡ reaction = rw (← t) e in
         rw (h, ← r, ← f) q
 
     pub byte-refused : (x : Refusal) → m .effect ≡ Refuses x → (Kept m firsts firsts₁) × (Kept m st st₁) → (r : Turned) → r ≡ stops p x

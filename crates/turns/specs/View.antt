@@ -4,6 +4,7 @@ use mathlib.Core.Bool.{Bool, true, false}
 use mathlib.Core.Path.{_≡_}
 use mathlib.Core.List.{List}
 use Rattle.rules.specs.declared.Bodies.{Bodies}
+use Rattle.rules.specs.declared.Coding.{Coding}
 use Rattle.rules.specs.declared.Cursor.{Cursor}
 use Rattle.rules.specs.declared.Drawing.{Drawing}
 use Rattle.rules.specs.declared.Sets.{Sets}
@@ -17,7 +18,8 @@ use Rattle.rules.specs.Drawing.{act}
 use Rattle.rules.specs.Step.{State, stateOf, withStatus, onOutcome}
 use Rattle.rules.specs.Reading.{roomForStep, consumedBy}
 use Rattle.bodies.specs.Stack.{bodiesOf}
-use Rattle.coding.specs.View.{codingOf}
+use Rattle.coding.specs.View.{codingOf, setsAfter}
+use Rattle.coding.specs.declared.reactions.Reacted.{Reacted}
 use Rattle.turns.specs.Turn.{sourceAt, readOn, stepBy, Left, leaves}
 use Rattle.turns.specs.declared.step.Course.{Course}
 use Rattle.turns.specs.declared.step.Course.the-variants.{GoesOn, Ends, Draws}
@@ -39,6 +41,10 @@ startOf s =
       sets = s .coding .sets;
       waiting = s .coding .waiting;
     }
+
+-- The coding layer after a byte and its reaction
+abbrev pub codingAfter : Reacted → Progress → List ℕ → Coding
+codingAfter r p firsts = codingOf (setsAfter (r .effect) (p .sets)) (r .waiting) firsts
 
 -- An accepted step, which counts
 abbrev pub stepsTo : ℕ → ℕ → Sets → Waiting → Progress → Progress

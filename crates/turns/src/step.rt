@@ -3,6 +3,7 @@ use bodies::MOST_DEPTH;
 use bodies::set_body;
 use coding::react;
 use coding::reactions::Effect;
+use coding::reactions::Reacted;
 use coding::reactions::sets_after;
 use drawing::act;
 use figures::Drawn;
@@ -29,9 +30,9 @@ ghost use Rattle.rules.specs.Step.{onOutcome, call, opensInside};
 ghost use Rattle.macros.specs.Lent.{Sized, IsName};
 ghost use Rattle.figures.specs.Carried.{carryOut, drawingOf, carriedOf};
 ghost use Rattle.bodies.specs.Stack.{bodiesOf};
-ghost use Rattle.coding.specs.View.{codingOf};
+ghost use Rattle.coding.specs.View.{setsAfter};
 ghost use Rattle.turns.specs.Turn.{sourceAt, readOn, stepBy, interpreted, leaves};
-ghost use Rattle.turns.specs.View.{stateAt, stepsTo, leftOf, Due, Ready, readOnIf};
+ghost use Rattle.turns.specs.View.{stateAt, stepsTo, codingAfter, leftOf, Due, Ready, readOnIf};
 
 // Where a reading stands between two steps. The drawing state and the arrays of the state are lent beside it.
 pub struct Progress {
@@ -76,10 +77,13 @@ pub fn ends(progress: Progress, answer: Answer) -> Turned
 }
 
 // How an accepted step leaves the progress: it counts.
-fn counted(progress: Progress, at: usize, depth: u8, sets: Sets, waiting: Waiting) -> Progress
+fn counted(progress: Progress, at: usize, depth: u8, reacted: Reacted) -> Progress
     requires { ⌜ progress .steps < 4294967295 ⌝ }
-    ensures { λ r. ⌜ r ≡ stepsTo at depth sets waiting progress ⌝ }
+    ensures { λ r. ⌜ r ≡ stepsTo at depth (setsAfter (reacted .effect) (progress .sets)) (reacted .waiting) progress ⌝ }
 {
+    let effect = reacted.effect;
+    let sets = sets_after(effect, progress.sets);
+    let waiting = reacted.waiting;
     Progress {
         at,
         written: progress.written,
@@ -115,14 +119,13 @@ fn call(
     progress: Progress,
     onward: Onward,
     name: u8,
-    sets: Sets,
-    waiting: Waiting,
+    reacted: Reacted,
     cells: &mut [u8; 8],
     places: &mut [u8; 8],
     firsts: &[u8; 96],
 ) -> Turned
     requires { ⌜ (Ready progress (onward .at)) × (IsName name) ⌝ }
-    ensures left { λ r. ⌜ ((budget : ℕ) (d : Drawing) (st out : List ℕ) → leftOf budget progress r (now (cells .exit)) (now (places .exit)) (now (firsts .entry)) d st out ≡ leaves (stepBy (progress .depth) (onward .cursor) (call name (codingOf sets waiting (now (firsts .entry)))) (stateAt budget progress (now (cells .entry)) (now (places .entry)) (now (firsts .entry)) d st)) (progress .at) (progress .written) out) ⌝ }
+    ensures left { λ r. ⌜ ((budget : ℕ) (d : Drawing) (st out : List ℕ) → leftOf budget progress r (now (cells .exit)) (now (places .exit)) (now (firsts .entry)) d st out ≡ leaves (stepBy (progress .depth) (onward .cursor) (call name (codingAfter reacted progress (now (firsts .entry)))) (stateAt budget progress (now (cells .entry)) (now (places .entry)) (now (firsts .entry)) d st)) (progress .at) (progress .written) out) ⌝ }
     ensures due { λ r. ⌜ Due progress r ⌝ }
 {
     let depth = progress.depth;
@@ -135,7 +138,7 @@ fn call(
     set_body(cells, places, depth, Cursor { cell, place: 0 });
     Turned {
         course: Course::GoesOn,
-        progress: counted(progress, onward.at, depth + 1, sets, waiting),
+        progress: counted(progress, onward.at, depth + 1, reacted),
         cursor: NOWHERE,
     }
 }
@@ -144,13 +147,12 @@ fn call(
 fn idle(
     progress: Progress,
     onward: Onward,
-    sets: Sets,
-    waiting: Waiting,
+    reacted: Reacted,
     cells: &mut [u8; 8],
     places: &mut [u8; 8],
 ) -> Turned
     requires { ⌜ Ready progress (onward .at) ⌝ }
-    ensures left { λ r. ⌜ ((budget : ℕ) (d : Drawing) (firsts st out : List ℕ) → leftOf budget progress r (now (cells .exit)) (now (places .exit)) firsts d st out ≡ leaves (stepBy (progress .depth) (onward .cursor) (onOutcome (act Action.Idle d) (codingOf sets waiting firsts) st) (stateAt budget progress (now (cells .entry)) (now (places .entry)) firsts d st)) (progress .at) (progress .written) out) ⌝ }
+    ensures left { λ r. ⌜ ((budget : ℕ) (d : Drawing) (firsts st out : List ℕ) → leftOf budget progress r (now (cells .exit)) (now (places .exit)) firsts d st out ≡ leaves (stepBy (progress .depth) (onward .cursor) (onOutcome (act Action.Idle d) (codingAfter reacted progress firsts) st) (stateAt budget progress (now (cells .entry)) (now (places .entry)) firsts d st)) (progress .at) (progress .written) out) ⌝ }
     ensures due { λ r. ⌜ Due progress r ⌝ }
 {
     let depth = progress.depth;
@@ -158,21 +160,21 @@ fn idle(
     read_on(cells, places, depth, cursor);
     Turned {
         course: Course::GoesOn,
-        progress: counted(progress, onward.at, depth, sets, waiting),
+        progress: counted(progress, onward.at, depth, reacted),
         cursor: NOWHERE,
     }
 }
 
 // The body is read on once the action is drawn.
-fn draws(progress: Progress, onward: Onward, action: Action, sets: Sets, waiting: Waiting) -> Turned
+fn draws(progress: Progress, onward: Onward, action: Action, reacted: Reacted) -> Turned
     requires { ⌜ Ready progress (onward .at) ⌝ }
-    ensures left { λ r. ⌜ ((budget : ℕ) (cells places firsts : List ℕ) (d : Drawing) (st out : List ℕ) → leftOf budget progress r cells places firsts d st out ≡ leaves (stepBy (progress .depth) (onward .cursor) (onOutcome (act action d) (codingOf sets waiting firsts) st) (stateAt budget progress cells places firsts d st)) (progress .at) (progress .written) out) ⌝ }
+    ensures left { λ r. ⌜ ((budget : ℕ) (cells places firsts : List ℕ) (d : Drawing) (st out : List ℕ) → leftOf budget progress r cells places firsts d st out ≡ leaves (stepBy (progress .depth) (onward .cursor) (onOutcome (act action d) (codingAfter reacted progress firsts) st) (stateAt budget progress cells places firsts d st)) (progress .at) (progress .written) out) ⌝ }
     ensures due { λ r. ⌜ Due progress r ⌝ }
 {
     let cursor = onward.cursor;
     Turned {
         course: Course::Draws(action),
-        progress: counted(progress, onward.at, progress.depth, sets, waiting),
+        progress: counted(progress, onward.at, progress.depth, reacted),
         cursor,
     }
 }
@@ -181,18 +183,17 @@ fn ask(
     progress: Progress,
     onward: Onward,
     action: Action,
-    sets: Sets,
-    waiting: Waiting,
+    reacted: Reacted,
     cells: &mut [u8; 8],
     places: &mut [u8; 8],
 ) -> Turned
     requires { ⌜ Ready progress (onward .at) ⌝ }
-    ensures left { λ r. ⌜ ((budget : ℕ) (d : Drawing) (firsts st out : List ℕ) → leftOf budget progress r (now (cells .exit)) (now (places .exit)) firsts d st out ≡ leaves (stepBy (progress .depth) (onward .cursor) (onOutcome (act action d) (codingOf sets waiting firsts) st) (stateAt budget progress (now (cells .entry)) (now (places .entry)) firsts d st)) (progress .at) (progress .written) out) ⌝ }
+    ensures left { λ r. ⌜ ((budget : ℕ) (d : Drawing) (firsts st out : List ℕ) → leftOf budget progress r (now (cells .exit)) (now (places .exit)) firsts d st out ≡ leaves (stepBy (progress .depth) (onward .cursor) (onOutcome (act action d) (codingAfter reacted progress firsts) st) (stateAt budget progress (now (cells .entry)) (now (places .entry)) firsts d st)) (progress .at) (progress .written) out) ⌝ }
     ensures due { λ r. ⌜ Due progress r ⌝ }
 {
     match action {
-        Action::Idle => idle(progress, onward, sets, waiting, cells, places),
-        _ => draws(progress, onward, action, sets, waiting),
+        Action::Idle => idle(progress, onward, reacted, cells, places),
+        _ => draws(progress, onward, action, reacted),
     }
 }
 
@@ -217,14 +218,12 @@ pub fn interpret(
     }
     let reacted = react(sets, waiting, firsts, store, byte);
     let effect = reacted.effect;
-    let sets = sets_after(effect, sets);
-    let waiting = reacted.waiting;
     match effect {
         Effect::Refuses(refusal) => ends(progress, Answer::Refused(refusal)),
-        Effect::Calls(name) => call(progress, onward, name, sets, waiting, cells, places, firsts),
-        Effect::Acts(action) => ask(progress, onward, action, sets, waiting, cells, places),
-        Effect::Uses(_) => idle(progress, onward, sets, waiting, cells, places),
-        Effect::Designates(_, _) => idle(progress, onward, sets, waiting, cells, places),
+        Effect::Calls(name) => call(progress, onward, name, reacted, cells, places, firsts),
+        Effect::Acts(action) => ask(progress, onward, action, reacted, cells, places),
+        Effect::Uses(_) => idle(progress, onward, reacted, cells, places),
+        Effect::Designates(_, _) => idle(progress, onward, reacted, cells, places),
     }
 }
 

@@ -1,3 +1,4 @@
+use Rattle.coding.specs.View.{setsAfter}
 use Rattle.turns.proofs.StepLaws.{ends-due, call-deep, call-goes}
 use denote.Ref.{now}
 use borrow.Author.Needs.{needs}
@@ -12,7 +13,7 @@ returns c =
     let args· = c .before .before .args in
     let ends· = c .ends in
     let if1· = c .before .if1 in (
-      λ budget d st out. call-deep budget (args· .progress) (now (args· .cells)) (now (args· .places)) (now (args· .firsts)) d st out (args· .onward .cursor) (args· .name) (args· .sets) (args· .waiting) (ends· .result) (ends· .ensures) (if1· .taken),
+      λ budget d st out. call-deep budget (args· .progress) (now (args· .cells)) (now (args· .places)) (now (args· .firsts)) d st out (args· .onward .cursor) (args· .name) (setsAfter (args· .reacted .effect) (args· .progress .sets)) (args· .reacted .waiting) (ends· .result) (ends· .ensures) (if1· .taken),
       ends-due (args· .progress) (args· .progress) (ends· .result) _ (ends· .ensures),
     )
 
@@ -42,7 +43,7 @@ returns-2 c =
     let if1· = c .before .before .before .before .before .before .before .before .before .if1 in
     let pre· = c .before .before .before .before .before .before .before .before .before .before .pre in
     let counted· = c .counted in (
-      λ budget d st out. call-goes budget (args· .progress) (now (args· .cells)) (now (args· .places)) (now (args· .firsts)) d st out (args· .onward .cursor) (args· .name) (args· .sets) (args· .waiting) (read-on· .last .0) (read-on· .last .1 .0) (set-body· .last .0) (set-body· .last .1 .0) (first-of· .result) (args· .onward .at) (if1· .left) (read-on· .ensures) (first-of· .ensures) (set-body· .ensures) (pre· .0 .after) (counted· .result) (counted· .ensures),
+      λ budget d st out. call-goes budget (args· .progress) (now (args· .cells)) (now (args· .places)) (now (args· .firsts)) d st out (args· .onward .cursor) (args· .name) (setsAfter (args· .reacted .effect) (args· .progress .sets)) (args· .reacted .waiting) (read-on· .last .0) (read-on· .last .1 .0) (set-body· .last .0) (set-body· .last .1 .0) (first-of· .result) (args· .onward .at) (if1· .left) (read-on· .ensures) (first-of· .ensures) (set-body· .ensures) (pre· .0 .after) (counted· .result) (counted· .ensures),
       tt,
     )
 

@@ -3,11 +3,16 @@ use borrow.Author.Needs.{needs}
 use Rattle.turns.proofs.step.counted.Statement.{statement}
 use Rattle.turns.proofs.step.counted.Tie as tie
 
-add-t6 : tie.Need-add-t6
-add-t6 c = search needs
+sets-after-requires : tie.Need-sets-after-requires
+sets-after-requires c κs = search needs
+
+add-t8 : tie.Need-add-t8
+add-t8 c = search needs
 
 returns : tie.Need-returns
-returns c = refl
+returns c =
+    let sets-after· = c .before .sets-after in
+    rw (sets-after· .ensures) refl
 
 pub counted-spec : {M : Type 1} → statement M
-counted-spec = tie.close (tie.spec add-t6 returns)
+counted-spec = tie.close (tie.spec sets-after-requires add-t8 returns)

@@ -1,3 +1,4 @@
+use Rattle.coding.specs.View.{setsAfter}
 use Rattle.turns.proofs.StepLaws.{draws-left, draws-due}
 use Rattle.turns.proofs.step.draws.Statement.{statement}
 use Rattle.turns.proofs.step.draws.Tie as tie
@@ -12,8 +13,8 @@ returns c =
     let args· = c .before .before .args in
     let counted· = c .counted in
     let pre· = c .before .before .pre in (
-      λ budget cells places firsts d st out. draws-left budget (args· .progress) cells places firsts d st out (args· .onward .cursor) (args· .sets) (args· .waiting) (args· .action) (args· .onward .at) (counted· .result) (counted· .ensures),
-      draws-due (args· .action) (args· .progress) (args· .sets) (args· .waiting) (args· .onward .at) (counted· .result) (pre·) (counted· .ensures),
+      λ budget cells places firsts d st out. draws-left budget (args· .progress) cells places firsts d st out (args· .onward .cursor) (setsAfter (args· .reacted .effect) (args· .progress .sets)) (args· .reacted .waiting) (args· .action) (args· .onward .at) (counted· .result) (counted· .ensures),
+      draws-due (args· .action) (args· .progress) (setsAfter (args· .reacted .effect) (args· .progress .sets)) (args· .reacted .waiting) (args· .onward .at) (counted· .result) (pre·) (counted· .ensures),
     )
 
 pub draws-spec : {M : Type 1} → statement M

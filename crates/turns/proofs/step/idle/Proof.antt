@@ -1,3 +1,4 @@
+use Rattle.coding.specs.View.{setsAfter}
 use Rattle.turns.proofs.StepLaws.{idle-goes}
 use denote.Ref.{now}
 use Rattle.turns.proofs.step.idle.Statement.{statement}
@@ -19,7 +20,7 @@ returns c =
     let read-on· = c .before .read-on in
     let pre· = c .before .before .before .before .before .pre in
     let counted· = c .counted in (
-      λ budget d firsts st out. idle-goes budget (args· .progress) (now (args· .cells)) (now (args· .places)) firsts d st out (args· .onward .cursor) (args· .sets) (args· .waiting) (read-on· .last .0) (read-on· .last .1 .0) (args· .onward .at) (read-on· .ensures) (pre· .after) (counted· .result) (counted· .ensures),
+      λ budget d firsts st out. idle-goes budget (args· .progress) (now (args· .cells)) (now (args· .places)) firsts d st out (args· .onward .cursor) (setsAfter (args· .reacted .effect) (args· .progress .sets)) (args· .reacted .waiting) (read-on· .last .0) (read-on· .last .1 .0) (args· .onward .at) (read-on· .ensures) (pre· .after) (counted· .result) (counted· .ensures),
       tt,
     )
 
