@@ -1,4 +1,4 @@
-// What a byte did: its effect, and what is waited for after it. Sets, first cells and store are beside.
+// What a byte did: its effect, and what is waited for after it. The caller holds the sets; first cells and store are lent.
 use rules::Action;
 use rules::Element;
 use rules::Refusal;
@@ -13,7 +13,7 @@ ghost use Prim.Native.Nat.{ℕ};
 ghost use Rattle.rules.specs.Coding.{Refuse, Call, React, inUse, designate};
 ghost use Rattle.coding.specs.View.{codingOf, setsAfter, reactionOf, Kept};
 
-// Nearly every byte leaves the sets as they are. The last two say what changes of them, and ask nothing of drawing.
+// The last two say what changes of the sets, which the others leave; they ask nothing of drawing.
 pub enum Effect {
     Refuses(Refusal),
     Calls(u8),
