@@ -14,6 +14,11 @@ ghost use Rattle.macros.specs.Lent.{Sized, IsName};
 ghost use Rattle.idle.specs.Idle.{Idle, coded};
 ghost use Rattle.coding.specs.View.{codingOf};
 
+// After ESC, 4/0 opens a definition and 4/5 ends one.
+const OPENS: u8 = 64;
+
+const ENDS: u8 = 69;
+
 // How many bytes were read, and what is waited for after them.
 pub struct Defined {
     pub count: usize,
@@ -42,7 +47,7 @@ fn run_opening(bytes: &[u8], from: usize, to: usize) -> Defined
     ensures ran { λ r. ⌜ ((s : Sets) (f st : List ℕ) → Idle (now (bytes .entry)) from (coded (codingOf s Waiting.Nothing f) st) (r .count) (coded (codingOf s (r .waiting) f) st)) ⌝ }
     ensures most { λ r. ⌜ from + r .count ≤ to ⌝ }
 {
-    if escape_then(bytes, from, to, 64) {
+    if escape_then(bytes, from, to, OPENS) {
         return Defined {
             count: 2,
             waiting: Waiting::Name,
@@ -65,7 +70,7 @@ fn run_body(
 {
     let filled = fill(store, firsts, definition, bytes, from, to);
     let count = filled.count;
-    if escape_then(bytes, from + count, to, 69) {
+    if escape_then(bytes, from + count, to, ENDS) {
         return Defined {
             count: count + 2,
             waiting: Waiting::Nothing,
