@@ -2,14 +2,12 @@
 use crate::tracing::is_point;
 use coordinates::whole::Whole;
 use coordinates::whole::whole_point;
-use rules::Operand;
 use rules::Point;
 use rules::Role;
 ghost use mathlib.Core.Path.{_≡_};
 ghost use mathlib.Core.Bool.{true};
 ghost use Prim.Native.Nat.{_+_, _≤_};
 ghost use lib.ListN.{length, take, drop};
-ghost use Rattle.rules.specs.Drawing.{noOperand};
 ghost use Rattle.coordinates.specs.Data.{wholeOf};
 ghost use Rattle.commands.specs.Tracing.{isPoint};
 

@@ -1,7 +1,6 @@
 use native.Mathlib.Omega.{arith}
 use mathlib.Core.Path.{sym, ap}
 use Prim.Native.Nat.{ℕ, _+_}
-use Rattle.turns.specs.declared.step.Progress.{Progress}
 use Rattle.advance.proofs.ProgressLaws.{placed-piece, after-body}
 use borrow.Author.Needs.{needs}
 use Rattle.advance.proofs.drawn.after_run.Statement.{statement}

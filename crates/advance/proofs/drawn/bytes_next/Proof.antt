@@ -1,4 +1,3 @@
-use native.Mathlib.Omega.{arith}
 use Rattle.advance.proofs.ProgressLaws.{lies-less}
 use borrow.Author.Needs.{needs}
 use Rattle.advance.proofs.drawn.bytes_next.Statement.{statement}

@@ -1,4 +1,3 @@
-use denote.Ref.{now}
 use native.Mathlib.Omega.{arith}
 use Rattle.advance.proofs.ProgressLaws.{past-piece, past-body, depth-body}
 use borrow.Author.Needs.{needs}

@@ -1,4 +1,3 @@
-use mathlib.Core.Path.{refl}
 use Rattle.advance.proofs.ProgressLaws.{source-piece, source-body}
 use Rattle.advance.proofs.drawn.source_of.Statement.{statement}
 use Rattle.advance.proofs.drawn.source_of.Tie as tie

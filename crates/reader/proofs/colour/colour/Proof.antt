@@ -3,39 +3,29 @@ use Rattle.rules.specs.Calls.{colour}
 use borrow.Author.Needs.{needs}
 use Rattle.reader.proofs.colour.colour.Statement.{statement}
 use Rattle.reader.proofs.colour.colour.Tie as tie
-use Rattle.reader.proofs.colour.colour.Reads as reads
-use Rattle.reader.proofs.colour.colour.Lts as lts
 
--- src/colour.rt:12:9
 returns : tie.Need-returns
 unfolding colour
 returns c = rw (lt-leb _ _ (c .if1 .taken))
 
--- src/colour.rt:16:13
 mul-i : tie.Need-mul-i
 mul-i c = search needs
 
--- src/colour.rt:17:15
 array-read-t10 : tie.Need-array-read-t10
 array-read-t10 c = search needs
 
--- src/colour.rt:17:27
 add-t7 : tie.Need-add-t7
 add-t7 c = search needs
 
--- src/colour.rt:17:23
 array-read-t13 : tie.Need-array-read-t13
 array-read-t13 c = search needs
 
--- src/colour.rt:17:39
 add-t14 : tie.Need-add-t14
 add-t14 c = search needs
 
--- src/colour.rt:17:35
 array-read-t17 : tie.Need-array-read-t17
 array-read-t17 c = search needs
 
--- src/colour.rt:8:1
 returns-2 : tie.Need-returns-2
 unfolding colour
 returns-2 c = rw (le-leb _ _ (c .before .before .if1 .left))

@@ -5,29 +5,19 @@ use mathlib.Core.Path.{_∙_}
 use borrow.Author.Needs.{needs}
 use Rattle.reader.proofs.end.end.Statement.{statement}
 use Rattle.reader.proofs.end.end.Tie as tie
-use Rattle.reader.proofs.end.end.Reads as reads
-use Rattle.reader.proofs.end.end.Lts as lts
-use Rattle.reader.proofs.end.end_running.Reads as end-running-reads
-use Rattle.reader.proofs.end.rest.Reads as rest-reads
-use Rattle.verdict.proofs.verdict.Reads as verdict-reads
 
--- src/end.rt:156:11
 verdict-requires : tie.Need-verdict-requires
 verdict-requires c κs = search needs
 
--- src/end.rt:157:24
 enum-known-refusal : tie.Need-enum-known-refusal
 enum-known-refusal c = search needs
 
--- src/end.rt:157:36
 rest-requires : tie.Need-rest-requires
 rest-requires c κs = search needs
 
--- src/end.rt:158:56
 enum-told : tie.Need-enum-told
 enum-told c = search needs
 
--- src/end.rt:158:28
 end-running-requires : tie.Need-end-running-requires
 unfolding tests
 end-running-requires c κs =
@@ -36,7 +26,6 @@ end-running-requires c κs =
     let enum-told· = c .before .enum-told in
     end-valid (args· .session) (now (args· .store)) (now (args· .out)) (verdict· .result) (verdict· .ensures) (enum-told· .given .1)
 
--- src/end.rt:153:1
 returns : tie.Need-returns
 unfolding tests
 returns c =
@@ -46,11 +35,9 @@ returns c =
     let rest· = c .rest in
     end-fails (args· .session) (now (args· .store)) (now (args· .out)) (verdict· .result) (verdict· .ensures) _ _ (refusal· .given .1) (rest· .ensures)
 
--- src/end.rt:153:1
 same-length : tie.Need-same-length
 same-length c = search needs
 
--- src/end.rt:153:1
 returns-2 : tie.Need-returns-2
 unfolding tests
 returns-2 c =
