@@ -35,7 +35,8 @@ use Rattle.bodies.specs.Stack.{bodiesOf}
 use Rattle.bodies.specs.Calls.{NamesEmpty, CallsEmpty}
 use Rattle.figures.specs.Carried.{Carried, carry}
 use Rattle.runs.specs.Run.{ActsAs, Run, none as run-none, more as run-more}
-use Rattle.idle.specs.Idle.{Coded, Idle, none as idle-none, more as idle-more}
+use Rattle.macros.specs.Each.{none as each-none, more as each-more}
+use Rattle.idle.specs.Idle.{Coded, Idle}
 use Rattle.turns.specs.Turn.{Steps, onMove, onSought, turn}
 use Rattle.advance.specs.Walk.{Place, placed, Walk, none, step}
 
@@ -173,11 +174,11 @@ module _ (piece : List ℕ) (at written budget steps : ℕ) (cells places : List
 
     pub idle-walk : {x y : Coded} {n : ℕ} → Idle piece at x n y → n ≤ limit
         → Walk piece (quiet 0 (bodiesOf 0 cells places) (x .coding) (x .store)) (quiet n (bodiesOf 0 cells places) (y .coding) (y .store))
-    idle-walk idle-none l = none
-    idle-walk (idle-more {n} {y} {c} {st} r e) l =
-        quiet-step n (bodiesOf 0 cells places) (bodiesOf 0 cells places) (y .coding) c (y .store) st (stateOf budget (steps + n) Running (bodiesOf 0 cells places) (y .coding) d (y .store)) l
+    idle-walk each-none l = none
+    idle-walk (each-more {n} {y} {z} r e) l =
+        quiet-step n (bodiesOf 0 cells places) (bodiesOf 0 cells places) (y .coding) (z .coding) (y .store) (z .store) (stateOf budget (steps + n) Running (bodiesOf 0 cells places) (y .coding) d (y .store)) l
         (idle-walk r (omega arith)) (none-spent budget (steps + n) cells places (y .coding) d (y .store)) refl
-        (idle-goes (steps + n) (y .coding) c (y .store) st (getD piece (at + n) 0) e)
+        (idle-goes (steps + n) (y .coding) (z .coding) (y .store) (z .store) (getD piece (at + n) 0) e)
 
     -- The bodies after so many calls of empty bodies
     abbrev pub called : ℕ → Bodies

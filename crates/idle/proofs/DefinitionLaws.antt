@@ -12,10 +12,11 @@ use Rattle.rules.specs.declared.Sets.{Sets}
 use Rattle.rules.specs.declared.Waiting.{Waiting}
 use Rattle.rules.specs.declared.Waiting.the-variants.{Nothing, Escape, Name, Body, BodyEscape}
 use Rattle.rules.specs.Coding.{React, inBody, innerOf, inBodyEscape, finalOf, escape, controls, control, classOf, reactTo, react}
-use Rattle.idle.specs.Idle.{coded, Idle, none}
+use Rattle.macros.specs.Each.{none}
+use Rattle.macros.proofs.EachLaws.{each-on}
+use Rattle.idle.specs.Idle.{coded, Idle}
 use Rattle.idle.specs.declared.definitions.Defined.{Defined}
 use Rattle.coding.specs.View.{codingOf}
-use Rattle.idle.proofs.IdleLaws.{idle-on}
 
 -- The reactions to ESC 4/0 where nothing is waited for, and to ESC 4/5 in a body
 module _ (s : Sets) (f st : List ℕ) where
@@ -42,8 +43,8 @@ module _ (bytes : List ℕ) (from : ℕ) where
       → react c st a ≡ React c₁ st Idle·action → react c₁ st b ≡ React c₂ st Idle·action → Idle bytes from (coded c st) 2 (coded c₂ st)
   two-idle c c₁ c₂ st a b ea eb e₁ e₂ =
       let z : from + 0 ≡ from = omega arith in
-      idle-on bytes from 1 c₁ c₂ st st
-      (idle-on bytes from 0 c c₁ st st none (ap (λ (i : ℕ). react c st (getD bytes i 0)) z ∙ ap (react c st) ea ∙ e₁))
+      each-on bytes from 1 (coded c₁ st) (coded c₂ st)
+      (each-on bytes from 0 (coded c st) (coded c₁ st) none (ap (λ (i : ℕ). react c st (getD bytes i 0)) z ∙ ap (react c st) ea ∙ e₁))
       (ap (react c₁ st) eb ∙ e₂)
 
   module _ (s : Sets) (f st : List ℕ) (escaped : getD bytes from 0 ≡ 27) where

@@ -5,7 +5,6 @@ use mathlib.Core.Bool.{true, false}
 use mathlib.Core.List.{List, [], _∷_}
 use mathlib.Core.Logic.{_⊎_, inl, inr}
 use Prim.Native.Nat.{ℕ, zero, suc, _+_, _≤_}
-use native.Mathlib.Numerals.{add-one}
 use native.Mathlib.Omega.{arith}
 use borrow.Author.Tests.{le-ltb, ne-eqb}
 use lib.ListN.{getD}
@@ -22,36 +21,23 @@ use Rattle.rules.specs.declared.Waiting.{Waiting}
 use Rattle.rules.specs.declared.Waiting.the-variants.{Body}
 use Rattle.rules.specs.Coding.{React, keep, inBody, reactTo, react}
 use Rattle.rules.specs.Ranges.{waitingFits}
-use Rattle.rules.specs.Store.{Filling, Stored, storeByte}
-use Rattle.macros.specs.Runs.{Plain, Stores, none as stored-none, more as stored-more}
-use Rattle.idle.specs.Idle.{Coded, coded, Idle, none, more, idleAction, idleEffect}
+use Rattle.rules.specs.Store.{Filling}
+use Rattle.macros.specs.Each.{none, more}
+use Rattle.macros.specs.Runs.{StoresByte, Stores}
+use Rattle.macros.proofs.EachLaws.{each-as}
+use Rattle.idle.specs.Idle.{Coded, coded, IdleByte, Idle, idleAction, idleEffect}
 use Rattle.coding.specs.View.{codingOf, effectOn, setsAfter, reactionOf, KeptBy, Kept}
 use Rattle.coding.specs.declared.reactions.Effect.{Effect}
 use Rattle.coding.specs.declared.reactions.Effect.the-variants.{Refuses, Calls, Acts, Uses, Designates}
 use Rattle.coding.specs.declared.reactions.Reacted.{Reacted}
 use Rattle.coding.proofs.EffectLaws.{act-kept}
 
--- A run goes on by a byte, and by a run
-module _ (bytes : List ℕ) (from : ℕ) {x : Coded} (n : ℕ) where
-  pub idle-on : (c c₁ : Coding) (st st₁ : List ℕ) → Idle bytes from x n (coded c st)
-      → react c st (getD bytes (from + n) 0) ≡ React c₁ st₁ Idle·action → Idle bytes from x (n + 1) (coded c₁ st₁)
-  idle-on c c₁ st st₁ d e = rw add-one (more d e)
-
-  pub idle-join : (m : ℕ) (y z : Coded) → Idle bytes from x n y → Idle bytes (from + n) y m z → Idle bytes from x (n + m) z
-  idle-join zero y z d none =
-      let k : n + 0 ≡ n = omega arith in
-      rw k d
-  idle-join (suc m) y z d (more {y = v} e q) =
-      let k : n + suc m ≡ suc (n + m) = omega arith in
-      let j : from + (n + m) ≡ from + n + m = omega arith in
-      rw k (more (idle-join m y v d e) (ap (λ (i : ℕ). react (v .coding) (v .store) (getD bytes i 0)) j ∙ q))
-
 -- What is waited for stays in range; a run of no byte changes nothing
 module _ (bytes : List ℕ) (from : ℕ) (x : Coded) where
   pub idle-fits : (n : ℕ) (y : Coded) → Idle bytes from x n y → waitingFits (x .coding .waiting) ≡ true → waitingFits (y .coding .waiting) ≡ true
   idle-fits zero y none k = k
-  idle-fits (suc n) y (more {y = v} {c = c} {st = st} d e) k =
-      let fits : ReactionFits (v .store) (React c st Idle·action) = rw e at (react-fits (v .coding) (v .store) (getD bytes (from + n) 0) (idle-fits n v d k)) in
+  idle-fits (suc n) y (more {y = v} d e) k =
+      let fits : ReactionFits (v .store) (React (y .coding) (y .store) Idle·action) = rw e at (react-fits (v .coding) (v .store) (getD bytes (from + n) 0) (idle-fits n v d k)) in
       fits .2
 
   idle-none : (n : ℕ) (y : Coded) → n ≤ 0 → Idle bytes from x n y → y ≡ x
@@ -70,14 +56,12 @@ module _ (s : Sets) where
   abbrev within : Filling → Coded
   within f = coded (codingOf s (Body (f .definition)) (f .firsts)) (f .store)
 
-  body-idle : (f g : Filling) (b : ℕ) → Plain b → storeByte f b ≡ Stored g
-      → react (within f .coding) (within f .store) b ≡ React (within g .coding) (within g .store) Idle·action
+  body-idle : (b : ℕ) (f g : Filling) → StoresByte b f g → IdleByte b (within f) (within g)
   unfolding react reactTo inBody keep
-  body-idle f g b p e = rw (le-ltb 127 b (p .0), ne-eqb b 27 (p .1), e)
+  body-idle b f g h = rw (le-ltb 127 b (h .0 .0), ne-eqb b 27 (h .0 .1), h .1)
 
   pub stores-idle : (bytes : List ℕ) (from n : ℕ) (f g : Filling) → Stores bytes from f n g → Idle bytes from (within f) n (within g)
-  stores-idle bytes from zero f g stored-none = none
-  stores-idle bytes from (suc n) f g (stored-more {g = h} d p e) = more (stores-idle bytes from n f h d) (body-idle h g (getD bytes (from + n) 0) p e)
+  stores-idle = each-as within body-idle
 
 -- Which actions and effects are idle
 abbrev not-idle : List ℕ

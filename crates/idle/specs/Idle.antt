@@ -1,13 +1,13 @@
 -- Idle bytes: those that ask nothing of drawing and call no macro, one after the other
-use Prim.Native.Nat.{ℕ, zero, suc, _+_}
+use Prim.Native.Nat.{ℕ}
 use mathlib.Core.Bool.{Bool, true, false}
 use mathlib.Core.List.{List}
 use mathlib.Core.Path.{_≡_}
-use lib.ListN.{getD}
 use Rattle.rules.specs.declared.Action.{Action}
 use Rattle.rules.specs.declared.Action.the-variants.{Idle as Idle·action, Close, Control, Character, Opcode, Data}
 use Rattle.rules.specs.declared.Coding.{Coding}
 use Rattle.rules.specs.Coding.{React, react}
+use Rattle.macros.specs.Each.{Each}
 use Rattle.coding.specs.declared.reactions.Effect.{Effect}
 use Rattle.coding.specs.declared.reactions.Effect.the-variants.{Refuses, Calls, Acts, Uses, Designates}
 
@@ -19,12 +19,12 @@ pub record Coded : Type 0 where
 abbrev pub coded : Coding → List ℕ → Coded
 coded c st = record { coding = c; store = st }
 
--- So many bytes from a place on, each a step of its own
-pub data Idle (bytes : List ℕ) (from : ℕ) (x : Coded) : ℕ → Coded → Type 0 where
-  none : Idle bytes from x zero x
-  more : {n : ℕ} {y : Coded} {c : Coding} {st : List ℕ}
-      → Idle bytes from x n y → react (y .coding) (y .store) (getD bytes (from + n) 0) ≡ React c st Idle·action
-      → Idle bytes from x (suc n) (coded c st)
+-- An idle byte, and so many from a place on, each a step of its own
+abbrev pub IdleByte : ℕ → Coded → Coded → Type 0
+IdleByte b y z = react (y .coding) (y .store) b ≡ React (z .coding) (z .store) Idle·action
+
+abbrev pub Idle : List ℕ → ℕ → Coded → ℕ → Coded → Type 0
+Idle bytes from x n y = Each IdleByte bytes from x n y
 
 -- An effect of the code that asks nothing of drawing
 unfoldable pub idleAction : Action → Bool

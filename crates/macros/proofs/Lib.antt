@@ -1,4 +1,5 @@
 pub mod CellLaws
 pub mod ChainLaws
+pub mod EachLaws
 pub mod RunLaws
 pub mod StretchLaws

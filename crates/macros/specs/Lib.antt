@@ -1,4 +1,5 @@
 pub mod Lent
 pub mod Freeing
+pub mod Each
 pub mod Runs
 pub mod Stretch

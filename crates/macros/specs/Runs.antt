@@ -4,6 +4,7 @@ use mathlib.Core.List.{List}
 use mathlib.Core.Path.{_≡_}
 use lib.ListN.{getD}
 use Rattle.rules.specs.Store.{Filling, Stored, setBodyByte, storeByte}
+use Rattle.macros.specs.Each.{Each}
 
 -- A byte that a definition stores as it is: neither ESC nor over 127
 abbrev pub Plain : ℕ → Type 0
@@ -15,8 +16,9 @@ pub data Laid (bytes : List ℕ) (from cell place : ℕ) (st : List ℕ) : ℕ �
   more : {n : ℕ} {st₁ : List ℕ} → Laid bytes from cell place st n st₁ → Plain (getD bytes (from + n) 0)
       → Laid bytes from cell place st (suc n) (setBodyByte st₁ cell (place + n) (getD bytes (from + n) 0))
 
--- So many bytes from a place on, each stored by itself
-pub data Stores (bytes : List ℕ) (from : ℕ) (f : Filling) : ℕ → Filling → Type 0 where
-  none : Stores bytes from f zero f
-  more : {n : ℕ} {g h : Filling} → Stores bytes from f n g → Plain (getD bytes (from + n) 0)
-      → storeByte g (getD bytes (from + n) 0) ≡ Stored h → Stores bytes from f (suc n) h
+-- A byte stored by itself, and so many from a place on
+abbrev pub StoresByte : ℕ → Filling → Filling → Type 0
+StoresByte b f g = (Plain b) × (storeByte f b ≡ Stored g)
+
+abbrev pub Stores : List ℕ → ℕ → Filling → ℕ → Filling → Type 0
+Stores bytes from f n g = Each StoresByte bytes from f n g

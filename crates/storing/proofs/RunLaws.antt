@@ -1,16 +1,16 @@
--- Laws of runs: bytes laid into a cell whose count is then set are bytes stored one after the other, and runs are joined.
+-- Laws of runs: bytes laid into a cell whose count is then set are bytes stored one after the other.
 -- Assumes nothing.
 use mathlib.Core.Path.{_≡_, refl, ap, _∙_}
 use mathlib.Core.Bool.{true}
 use mathlib.Core.List.{List, [], _∷_}
 use Prim.Native.Nat.{ℕ, zero, suc, _+_, _*_, _<_, _≤_}
-use native.Mathlib.Numerals.{add-one}
 use native.Mathlib.Omega.{arith}
 use lib.ListN.{length, getD, set}
 use lib.Seq.{set-getD}
 use Rattle.rules.specs.Store.{countOf, setCount, goodCount, setBodyByte, Filling, Stored, storeInLast, storeByte}
 use Rattle.macros.specs.Lent.{Sized}
-use Rattle.macros.specs.Runs.{Plain, Laid, Stores, none, more}
+use Rattle.macros.specs.Each.{none as each-none, more as each-more}
+use Rattle.macros.specs.Runs.{Laid, Stores, none, more}
 use Rattle.storing.specs.Storing.{fillingOf}
 use Rattle.macros.proofs.CellLaws.{good-least, good-between, length-setBodyByte, count-setCount}
 use Rattle.storing.proofs.StoringLaws.{held, byte-in}
@@ -63,29 +63,14 @@ module _ (bytes : List ℕ) (from last name : ℕ) (firsts st : List ℕ) where
         → Stores bytes from (within st) n (within (setCount st₁ last (countOf st last + n)))
     laid-stores zero st₁ lo hi none =
         let k : countOf st last + 0 ≡ countOf st last = omega arith in
-        rw (k, count-same st last) none
+        rw (k, count-same st last) each-none
     laid-stores (suc n) st₁ lo hi (more {st₁ = st₀} l p) =
         let place = countOf st last in
         let k : place + suc n ≡ suc (place + n) = omega arith in
-        rw k (more (laid-stores n st₀ lo (omega arith) l) p (store-on st₀ (place + n) (getD bytes (from + n) 0) (laid-length place n st₀ l ∙ sized) (omega arith) (omega arith)))
+        rw k (each-more (laid-stores n st₀ lo (omega arith) l) (p, store-on st₀ (place + n) (getD bytes (from + n) 0) (laid-length place n st₀ l ∙ sized) (omega arith) (omega arith)))
 
     -- From what the calls hand back
     pub run-stored : (count n : ℕ) (st₁ st₂ : List ℕ) → count ≡ countOf st last → goodCount count ≡ true → count + n ≤ 30
         → Laid bytes from last count st n st₁ → st₂ ≡ setCount st₁ last (count + n) → Stores bytes from (within st) n (within st₂)
     run-stored count n st₁ st₂ ec good hi l e =
         rw (e, ec) (laid-stores n st₁ (good-least (countOf st last) (rw ec at good)) (rw ec at hi) (rw ec at l))
-
--- A run goes on by a byte, and by a run
-module _ (bytes : List ℕ) (from : ℕ) {f : Filling} (n : ℕ) where
-  pub stores-on : (g h : Filling) → Stores bytes from f n g → Plain (getD bytes (from + n) 0) → storeByte g (getD bytes (from + n) 0) ≡ Stored h
-      → Stores bytes from f (n + 1) h
-  stores-on g h d p e = rw add-one (more d p e)
-
-  pub stores-join : (m : ℕ) (g h : Filling) → Stores bytes from f n g → Stores bytes (from + n) g m h → Stores bytes from f (n + m) h
-  stores-join zero g h d none =
-      let k : n + 0 ≡ n = omega arith in
-      rw k d
-  stores-join (suc m) g h d (more {g = v} e p q) =
-      let k : n + suc m ≡ suc (n + m) = omega arith in
-      let j : from + n + m ≡ from + (n + m) = omega arith in
-      rw k (more (stores-join m g v d e) (rw j at p) (rw j at q))

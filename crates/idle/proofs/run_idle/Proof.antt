@@ -4,9 +4,11 @@ use native.Mathlib.Omega.{arith}
 use lib.ListN.{length}
 use borrow.Author.Needs.{needs}
 use borrow.Author.Tests.{not-true, not-false}
-use Rattle.idle.specs.Idle.{Idle, coded, none}
+use Rattle.macros.specs.Each.{none}
+use Rattle.macros.proofs.EachLaws.{each-on, each-join}
+use Rattle.idle.specs.Idle.{Idle, coded}
 use Rattle.coding.specs.View.{codingOf}
-use Rattle.idle.proofs.IdleLaws.{idle-on, idle-join, idle-fits, idle-still, idle-reacts, busy-keeps}
+use Rattle.idle.proofs.IdleLaws.{idle-fits, idle-still, idle-reacts, busy-keeps}
 use Rattle.idle.proofs.run_idle.Statement.{statement}
 use Rattle.idle.proofs.run_idle.Tie as tie
 
@@ -45,7 +47,7 @@ loop-again : tie.Need-loop-again Inv-loop μ-loop
 loop-again c =
     let run-definition· = c .before .before .before .before .before .run-definition in
     let loop· = c .before .before .before .before .before .before .before .before .loop in
-    (omega (arith, run-definition· .ensures .1), search needs, idle-join _ _ _ _ _ _ (loop· .inv .2) (run-definition· .ensures .0 _))
+    (omega (arith, run-definition· .ensures .1), search needs, each-join _ _ _ _ _ _ (loop· .inv .2) (run-definition· .ensures .0 _))
 
 add-may-be-idle : tie.Need-add-may-be-idle Inv-loop μ-loop
 add-may-be-idle c = search needs
@@ -131,7 +133,7 @@ loop-again-2 c =
     let ran = idle-still _ _ _ _ _ _ _ _ _ _ _ _ _ (if1· .left) (run-definition· .ensures .0 _) (loop· .inv .2) in (
       omega (arith, may-be-idle· .ensures (not-false (may-be-idle· .result) (if2· .left))),
       search needs,
-      rw (sets-after· .ensures) (idle-on _ _ _ _ _ _ _ ran (idle-reacts _ _ _ _ _ (react· .result) _ _ (react· .ensures .0) idle)),
+      rw (sets-after· .ensures) (each-on _ _ _ _ _ ran (idle-reacts _ _ _ _ _ (react· .result) _ _ (react· .ensures .0) idle)),
     )
 
 pub run-idle-spec : {M : Type 1} → statement M

@@ -1,7 +1,8 @@
 use native.Mathlib.Omega.{arith}
 use borrow.Author.Needs.{needs}
 use Rattle.idle.proofs.DefinitionLaws.{end-idle}
-use Rattle.idle.proofs.IdleLaws.{idle-join, stores-idle}
+use Rattle.macros.proofs.EachLaws.{each-join}
+use Rattle.idle.proofs.IdleLaws.{stores-idle}
 use Rattle.idle.proofs.definitions.run_body.Statement.{statement}
 use Rattle.idle.proofs.definitions.run_body.Tie as tie
 
@@ -30,7 +31,7 @@ returns c =
     let if1· = c .if1 in
     let fill· = c .before .before .before .before .fill in
     let read = escape-then· .ensures (if1· .taken) in
-    ((λ s. idle-join _ _ _ _ _ _ (stores-idle s _ _ _ _ _ (fill· .ensures .0)) (end-idle _ _ s _ _ (read .1) _ (read .2))), omega (arith, read .0))
+    ((λ s. each-join _ _ _ _ _ _ (stores-idle s _ _ _ _ _ (fill· .ensures .0)) (end-idle _ _ s _ _ (read .1) _ (read .2))), omega (arith, read .0))
 
 same-length-2 : tie.Need-same-length-2
 same-length-2 c = search needs

@@ -4,9 +4,10 @@ use native.Mathlib.Omega.{arith}
 use lib.ListN.{length}
 use borrow.Author.Needs.{needs}
 use borrow.Author.Tests.{not-false}
-use Rattle.macros.specs.Runs.{Stores, none}
+use Rattle.macros.specs.Each.{none}
+use Rattle.macros.specs.Runs.{Stores}
+use Rattle.macros.proofs.EachLaws.{each-on, each-join}
 use Rattle.storing.specs.Storing.{fillingOf}
-use Rattle.storing.proofs.RunLaws.{stores-on, stores-join}
 use Rattle.storing.proofs.StoringLaws.{byte-stored, refused-keeps}
 use Rattle.storing.proofs.filling.fill.Statement.{statement}
 use Rattle.storing.proofs.filling.fill.Tie as tie
@@ -52,7 +53,7 @@ returns : tie.Need-returns Inv-loop μ-loop
 returns c =
     let loop· = c .before .before .before .before .before .before .loop in
     let store-run· = c .before .before .before .before .store-run in
-    (stores-join _ _ _ _ _ _ (loop· .inv .2) (store-run· .ensures .0 _ _), omega (arith, store-run· .ensures .1))
+    (each-join _ _ _ _ _ _ (loop· .inv .2) (store-run· .ensures .0 _ _), omega (arith, store-run· .ensures .1))
 
 add-byte : tie.Need-add-byte Inv-loop μ-loop
 add-byte c = search needs
@@ -82,7 +83,7 @@ returns-2 c =
     let store-run· = c .before .before .before .before .before .before .before .before .before .before .before .before .store-run in
     let same-firsts = refused-keeps _ _ _ _ (enum-told· .given .1) (store-byte· .ensures .1 .0) in
     let same-store = refused-keeps _ _ _ _ (enum-told· .given .1) (store-byte· .ensures .1 .1) in
-    (rw (same-firsts, same-store) (stores-join _ _ _ _ _ _ (loop· .inv .2) (store-run· .ensures .0 _ _)), omega (arith, store-run· .ensures .1))
+    (rw (same-firsts, same-store) (each-join _ _ _ _ _ _ (loop· .inv .2) (store-run· .ensures .0 _ _)), omega (arith, store-run· .ensures .1))
 
 enum-known-longer : tie.Need-enum-known-longer Inv-loop μ-loop
 enum-known-longer c = search needs
@@ -109,10 +110,10 @@ loop-again c =
     let store-byte· = c .before .before .before .before .before .store-byte in
     let longer· = c .before .longer in
     let plain = stores-at· .ensures (not-false (stores-at· .result) (if1· .left)) in
-    let ran = stores-join _ _ _ _ _ _ (loop· .inv .2) (store-run· .ensures .0 _ _) in (
+    let ran = each-join _ _ _ _ _ _ (loop· .inv .2) (store-run· .ensures .0 _ _) in (
       omega (arith, plain .0),
       search needs,
-      stores-on _ _ _ _ _ ran (plain .1) (byte-stored _ _ (store-byte· .result) _ _ _ (store-byte· .ensures .0) (longer· .given .1)),
+      each-on _ _ _ _ _ ran (plain .1, byte-stored _ _ (store-byte· .result) _ _ _ (store-byte· .ensures .0) (longer· .given .1)),
     )
 
 pub fill-spec : {M : Type 1} → statement M

@@ -1,7 +1,7 @@
 use mathlib.Core.Path.{sym, _∙_}
 use native.Mathlib.Omega.{arith}
 use borrow.Author.Tests.{not-false}
-use Rattle.macros.specs.Runs.{none}
+use Rattle.macros.specs.Each.{none}
 use Rattle.macros.proofs.CellLaws.{good-most}
 use Rattle.storing.proofs.RunLaws.{run-stored}
 use borrow.Author.Needs.{needs}
