@@ -15,4 +15,5 @@ pub mod Pending
 pub mod Simulation
 pub mod Expanding
 pub mod CallLaws
+pub mod Feeding
 pub mod Demand3
