@@ -15,5 +15,6 @@ pub mod Pending
 pub mod Simulation
 pub mod Expanding
 pub mod CallLaws
+pub mod Numbers
 pub mod Feeding
 pub mod Demand3

@@ -1,0 +1,55 @@
+-- A number determines its answer: different answers have different numbers
+use Prim.Native.Nat.{ℕ, zero, suc}
+use mathlib.Core.Path.{_≡_, refl, sym, ap, _∙_}
+use mathlib.Core.List.{List, [], _∷_}
+use lib.ListN.{getD}
+use Rattle.rules.specs.declared.Refusal.the-variants.{BudgetUsed, ByteOver127, NameBelow, Unsupported, DefinitionInBody, StoreFull, TooDeep, TooManyVertices, EndInside, BodyBytesLeft, StoreSize, OutOfRange, AfterEnd, AddressOver15}
+use Rattle.rules.specs.declared.Answer.{Answer}
+use Rattle.rules.specs.declared.Answer.the-variants.{Done, Full, Refused}
+use Rattle.rules.specs.declared.Shade.{Shade}
+use Rattle.rules.specs.declared.Shade.the-variants.{Of, NoAddress}
+use Rattle.rules.specs.Calls.{refusalNumber, numberOf, shadeNumber, shadeValues}
+
+-- The answers, each at its number
+abbrev answers : List Answer
+answers =
+    Done ∷ Full
+    ∷ Refused BudgetUsed ∷ Refused ByteOver127 ∷ Refused NameBelow ∷ Refused Unsupported ∷ Refused DefinitionInBody
+    ∷ Refused StoreFull ∷ Refused TooDeep ∷ Refused TooManyVertices ∷ Refused EndInside ∷ Refused BodyBytesLeft
+    ∷ Refused StoreSize ∷ Refused OutOfRange ∷ Refused AfterEnd ∷ Refused AddressOver15 ∷ []
+
+answer-at : (a : Answer) → getD answers (numberOf a) Done ≡ a
+unfolding numberOf refusalNumber
+answer-at Done = refl
+answer-at Full = refl
+answer-at (Refused BudgetUsed) = refl
+answer-at (Refused ByteOver127) = refl
+answer-at (Refused NameBelow) = refl
+answer-at (Refused Unsupported) = refl
+answer-at (Refused DefinitionInBody) = refl
+answer-at (Refused StoreFull) = refl
+answer-at (Refused TooDeep) = refl
+answer-at (Refused TooManyVertices) = refl
+answer-at (Refused EndInside) = refl
+answer-at (Refused BodyBytesLeft) = refl
+answer-at (Refused StoreSize) = refl
+answer-at (Refused OutOfRange) = refl
+answer-at (Refused AfterEnd) = refl
+answer-at (Refused AddressOver15) = refl
+
+pub number-tells : (a b : Answer) → numberOf a ≡ numberOf b → a ≡ b
+number-tells a b e = sym (answer-at a) ∙ ap (λ (n : ℕ). getD answers n Done) e ∙ answer-at b
+
+-- The same of colour: its number, and G, R, B
+abbrev shadeFrom : ℕ → List ℕ → Shade
+shadeFrom zero v = Of (getD v 0 0) (getD v 1 0) (getD v 2 0)
+shadeFrom (suc n) v = NoAddress
+
+shade-from : (s : Shade) → shadeFrom (shadeNumber s) (shadeValues s) ≡ s
+unfolding shadeNumber shadeValues refusalNumber
+shade-from (Of g r b) = refl
+shade-from NoAddress = refl
+
+pub shade-tells : (s t : Shade) → shadeNumber s ≡ shadeNumber t → shadeValues s ≡ shadeValues t → s ≡ t
+shade-tells s t e f =
+    sym (shade-from s) ∙ ap (λ (n : ℕ). shadeFrom n (shadeValues s)) e ∙ ap (shadeFrom (shadeNumber t)) f ∙ shade-from t
