@@ -1,18 +1,26 @@
--- Feed, by the outcome of the tests
-use mathlib.Core.Path.{_≡_, sym, _∙_}
+-- Feed, by the outcome of the tests; and of what is unread of a piece
+use mathlib.Core.Path.{_≡_, refl, sym, ap, _∙_, subst}
+use mathlib.Core.Bool.{Bool, true, false}
 use mathlib.Core.List.{List}
-use Prim.Native.Nat.{ℕ, _-_}
-use lib.ListN.{length}
+use Prim.Native.Nat.{ℕ, _-_, min}
+use native.Mathlib.Omega.{arith}
+use lib.Dec.{leb}
+use lib.ListN.{length, take, drop, length-drop, drop-of-length-le}
+use lib.Seq.{take-all}
+use borrow.Author.Tests.{leb-true, leb-false}
 use Rattle.rules.specs.declared.Refusal.{Refusal}
 use Rattle.rules.specs.declared.Session.{Session}
 use Rattle.rules.specs.declared.Verdict.{Verdict}
 use Rattle.rules.specs.declared.Verdict.the-variants.{Passes, Fails}
 use Rattle.rules.specs.declared.Answer.the-variants.{Refused}
 use Rattle.rules.specs.Reading.{Room, reading, tests}
-use Rattle.rules.specs.Calls.{handed, feed}
+use Rattle.rules.specs.Step.{State}
+use Rattle.rules.specs.Calls.{handed, feed, unread}
 use Rattle.rules.proofs.Steps.{Valid, tests-valid}
 use Rattle.rules.proofs.Readings.{reads-failed, reads-passed}
+use Rattle.handing.specs.declared.Fed.{Fed}
 use Rattle.handing.specs.Handing.{stateLent, handedOf}
+use Rattle.reader.specs.Promises.{Feeds}
 
 -- Feed: what is lent fails a test and is handed back, or passes them and is read
 module _ (s : Session) (st piece out : List ℕ) (v : Verdict) (e : v ≡ tests (stateLent s st)) where
@@ -26,3 +34,22 @@ module _ (s : Session) (st piece out : List ℕ) (v : Verdict) (e : v ≡ tests 
   pub feed-passes : v ≡ Passes → handed (reading (Room (length out)) (s .budget - s .steps) (stateLent s st) piece) out ≡ feed (stateLent s st) piece out
   unfolding feed
   feed-passes h = rw (reads-passed (Room (length out)) (stateLent s st) piece (sym e ∙ h))
+
+-- The part of a piece from where it is unread
+pub unread-part : (piece : List ℕ) (consumed from : ℕ) → from ≡ min consumed (length piece)
+    → take (length piece - from) (drop from piece) ≡ unread piece consumed
+unfolding unread
+unread-part piece consumed from e =
+    take-all (length piece - from) (drop from piece) (omega (arith, length-drop from piece)) ∙ by (leb consumed (length piece)) refl
+  where
+    by : (t : Bool) → leb consumed (length piece) ≡ t → drop from piece ≡ drop consumed piece
+    by true h = let k = leb-true consumed (length piece) h in let i : from ≡ consumed = omega arith in ap (λ (n : ℕ). drop n piece) i
+    by false h =
+        let k = leb-false consumed (length piece) h in
+        drop-of-length-le piece {i = from} (omega arith) ∙ sym (drop-of-length-le piece {i = consumed} (omega arith))
+
+-- So a feed of that part is a feed of what is unread
+pub fed-from : {w : State} (piece : List ℕ) {out left written : List ℕ} {r : Fed} (consumed from : ℕ) → from ≡ min consumed (length piece)
+    → Feeds w (take (length piece - from) (drop from piece)) out r left written → Feeds w (unread piece consumed) out r left written
+fed-from {w = w} piece {out = out} {left = left} {written = written} {r = r} consumed from e f =
+    subst (λ (p : List ℕ). Feeds w p out r left written) (unread-part piece consumed from e) f

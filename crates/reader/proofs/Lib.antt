@@ -1,2 +1,3 @@
 pub mod FeedLaws
 pub mod EndLaws
+pub mod Promising

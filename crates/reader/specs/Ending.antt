@@ -19,7 +19,7 @@ endingOf r st out =
       output = out;
     }
 
--- The session with one part replaced
+-- The session with another status and drawing state
 abbrev pub sessionWith : Status → Drawing → Session → Session
 sessionWith x d s =
     record { budget = s .budget; steps = s .steps; status = x; bodies = s .bodies; coding = s .coding; drawing = d }

@@ -1,2 +1,3 @@
-pub mod Ending
 pub mod Answers
+pub mod Ending
+pub mod Promises

@@ -1,12 +1,11 @@
 // The colour map.
 use rules::Session;
 use rules::Shade;
-ghost use mathlib.Core.Path.{_≡_};
-ghost use Rattle.rules.specs.Calls.{colour};
+ghost use Rattle.reader.specs.Promises.{Shades};
 
 // G, R and B of a map address.
 pub fn colour(session: Session, address: u8) -> Shade
-    ensures { λ r. ⌜ r ≡ colour session address ⌝ }
+    ensures { λ r. ⌜ Shades session address r ⌝ }
 {
     if 15 < address {
         return Shade::NoAddress;

@@ -22,12 +22,13 @@ ghost use lib.ListN.{length};
 ghost use mathlib.Core.Bool.{true};
 ghost use Rattle.rules.specs.Drawing.{act};
 ghost use Rattle.rules.specs.Ranges.{drawingFits};
-ghost use Rattle.rules.specs.Calls.{handed, ended, ending, end};
+ghost use Rattle.rules.specs.Calls.{handed, ended, ending};
 ghost use Rattle.rules.specs.Reading.{roomForStep};
 ghost use Rattle.rules.proofs.RecordCount.{closed};
 ghost use Rattle.rules.proofs.Steps.{Valid};
 ghost use Rattle.handing.specs.Handing.{stateLent};
 ghost use Rattle.reader.specs.Ending.{endingOf, sessionWith};
+ghost use Rattle.reader.specs.Promises.{Ends};
 
 pub struct Ended {
     pub answer: Answer,
@@ -150,7 +151,7 @@ fn end_running(session: Session, store: &[u8], out: &mut [u8]) -> Ended
 
 // Ends a page: closes the open command and hands its last records over.
 pub fn end(session: Session, store: &[u8], out: &mut [u8]) -> Ended
-    ensures { λ r. ⌜ endingOf r (now (store .entry)) (now (out .exit)) ≡ end (stateLent session (now (store .entry))) (now (out .entry)) ⌝ }
+    ensures { λ r. ⌜ Ends (stateLent session (now (store .entry))) (now (out .entry)) r (now (out .exit)) ⌝ }
 {
     match verdict(session, store.len()) {
         Verdict::Fails(refusal) => rest(session, Answer::Refused(refusal)),

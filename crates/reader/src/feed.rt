@@ -1,16 +1,20 @@
 // Feed: the tests of what is lent, then a reading of the piece.
+use crate::unread::unread_from;
 use handing::Fed;
 use reading::read;
 use rules::Answer;
 use rules::Session;
 use rules::Verdict;
 use verdict::verdict;
-ghost use mathlib.Core.Path.{_≡_};
-ghost use Rattle.rules.specs.Calls.{feed};
-ghost use Rattle.handing.specs.Handing.{stateLent, handedOf};
+ghost use Rattle.rules.specs.Calls.{unread};
+ghost use Rattle.handing.specs.Handing.{stateLent};
+ghost use Rattle.reader.specs.Promises.{Feeds};
 
+// Reads a piece as far as the output has room: consumed counts its bytes read, written those of the records. A piece that is not
+// read whole is lent again from there on, with the session that is handed back.
 pub fn feed(session: Session, store: &mut [u8], piece: &[u8], out: &mut [u8]) -> Fed
-    ensures { λ r. ⌜ handedOf r (now (store .exit)) (now (out .exit)) ≡ feed (stateLent session (now (store .entry))) (now (piece .entry)) (now (out .entry)) ⌝ }
+    ensures { λ r. ⌜ Feeds (stateLent session (now (store .entry))) (now (piece .entry)) (now (out .entry)) r
+        (now (store .exit)) (now (out .exit)) ⌝ }
 {
     match verdict(session, store.len()) {
         Verdict::Fails(refusal) => Fed {
@@ -21,4 +25,19 @@ pub fn feed(session: Session, store: &mut [u8], piece: &[u8], out: &mut [u8]) ->
         },
         Verdict::Passes => read(session, store, piece, out),
     }
+}
+
+// Feeds a piece from its consumed position on: what the calls before it left unread.
+pub fn feed_from(
+    session: Session,
+    store: &mut [u8],
+    piece: &[u8],
+    consumed: usize,
+    out: &mut [u8],
+) -> Fed
+    ensures { λ r. ⌜ Feeds (stateLent session (now (store .entry))) (unread (now (piece .entry)) consumed) (now (out .entry)) r
+        (now (store .exit)) (now (out .exit)) ⌝ }
+{
+    let from = unread_from(piece, consumed);
+    feed(session, store, &piece[from..], out)
 }

@@ -24,8 +24,8 @@ use rules::Waiting;
 use verdict::STORE_SIZE;
 ghost use mathlib.Core.Path.{_≡_};
 ghost use Rattle.rules.specs.Drawing.{freshDrawing};
-ghost use Rattle.rules.specs.Calls.{freshSession, openPage};
-ghost use Rattle.reader.specs.Answers.{openingOf};
+ghost use Rattle.rules.specs.Calls.{freshSession};
+ghost use Rattle.reader.specs.Promises.{Opens};
 
 const ORIGIN: Point = Point { x: 0, y: 0 };
 
@@ -110,7 +110,7 @@ fn fresh_session(status: Status, budget: u32) -> Session
 
 // Opens a page with a budget of steps. A store of another size is left as it is, and the session is stopped.
 pub fn open(store: &mut [u8], budget: u32) -> Opened
-    ensures { λ r. ⌜ openingOf r (now (store .exit)) ≡ openPage budget (now (store .entry)) ⌝ }
+    ensures { λ r. ⌜ Opens budget (now (store .entry)) r (now (store .exit)) ⌝ }
 {
     if store.len() != STORE_SIZE {
         let refusal = Refusal::StoreSize;

@@ -1,12 +1,13 @@
 use borrow.Author.Tests.{lt-leb, le-leb}
 use Rattle.rules.specs.Calls.{colour}
+use Rattle.reader.proofs.Promising.{shades}
 use borrow.Author.Needs.{needs}
 use Rattle.reader.proofs.colour.colour.Statement.{statement}
 use Rattle.reader.proofs.colour.colour.Tie as tie
 
 returns : tie.Need-returns
 unfolding colour
-returns c = rw (lt-leb _ _ (c .if1 .taken))
+returns c = shades (rw (lt-leb _ _ (c .if1 .taken)))
 
 mul-i : tie.Need-mul-i
 mul-i c = search needs
@@ -28,7 +29,7 @@ array-read-t17 c = search needs
 
 returns-2 : tie.Need-returns-2
 unfolding colour
-returns-2 c = rw (le-leb _ _ (c .before .before .if1 .left))
+returns-2 c = shades (rw (le-leb _ _ (c .before .before .if1 .left)))
 
 pub colour-spec : {M : Type 1} → statement M
 colour-spec =

@@ -1,4 +1,5 @@
 use Rattle.reader.proofs.EndLaws.{end-fails, end-valid, end-is}
+use Rattle.reader.proofs.Promising.{ends}
 use Rattle.rules.specs.Reading.{tests}
 use denote.Ref.{now}
 use mathlib.Core.Path.{_∙_}
@@ -33,7 +34,7 @@ returns c =
     let verdict· = c .before .before .before .before .verdict in
     let refusal· = c .before .before .refusal in
     let rest· = c .rest in
-    end-fails (args· .session) (now (args· .store)) (now (args· .out)) (verdict· .result) (verdict· .ensures) _ _ (refusal· .given .1) (rest· .ensures)
+    ends (end-fails (args· .session) (now (args· .store)) (now (args· .out)) (verdict· .result) (verdict· .ensures) _ _ (refusal· .given .1) (rest· .ensures))
 
 same-length : tie.Need-same-length
 same-length c = search needs
@@ -42,7 +43,7 @@ returns-2 : tie.Need-returns-2
 unfolding tests
 returns-2 c =
     let end-running· = c .before .before .end-running in
-    end-running· .ensures ∙ end-is _ _
+    ends (end-running· .ensures ∙ end-is _ _)
 
 pub end-spec : {M : Type 1} → statement M
 end-spec =

@@ -1,4 +1,5 @@
 use Rattle.reader.proofs.FeedLaws.{feed-fails, feed-valid, feed-passes}
+use Rattle.reader.proofs.Promising.{feeds}
 use Rattle.rules.specs.Reading.{tests}
 use denote.Ref.{now}
 use mathlib.Core.Path.{_∙_}
@@ -29,7 +30,7 @@ returns c =
     let args· = c .before .before .before .before .before .before .before .args in
     let verdict· = c .before .before .before .verdict in
     let refusal· = c .before .refusal in
-    feed-fails (args· .session) (now (args· .store)) (now (args· .piece)) (now (args· .out)) (verdict· .result) (verdict· .ensures) _ (refusal· .given .1)
+    feeds (feed-fails (args· .session) (now (args· .store)) (now (args· .piece)) (now (args· .out)) (verdict· .result) (verdict· .ensures) _ (refusal· .given .1))
 
 same-length : tie.Need-same-length
 same-length c = search needs
@@ -44,7 +45,7 @@ returns-2 c =
     let args· = c .before .before .before .before .before .before .before .before .before .before .before .before .before .args in
     let verdict· = c .before .before .before .before .before .before .before .before .before .verdict in
     let enum-told· = c .before .before .before .before .before .before .before .enum-told in
-    read· .ensures ∙ feed-passes (args· .session) (now (args· .store)) (now (args· .piece)) (now (args· .out)) (verdict· .result) (verdict· .ensures) (enum-told· .given .1)
+    feeds (read· .ensures ∙ feed-passes (args· .session) (now (args· .store)) (now (args· .piece)) (now (args· .out)) (verdict· .result) (verdict· .ensures) (enum-told· .given .1))
 
 pub feed-spec : {M : Type 1} → statement M
 feed-spec =

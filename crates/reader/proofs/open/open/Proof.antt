@@ -1,5 +1,6 @@
 use borrow.Author.Tests.{ne-eqb, eq-eqb}
 use Rattle.rules.specs.Calls.{openPage, openAs, opened}
+use Rattle.reader.proofs.Promising.{opens}
 use borrow.Author.Needs.{needs}
 use Rattle.reader.proofs.open.open.Statement.{statement}
 use Rattle.reader.proofs.open.open.Tie as tie
@@ -9,7 +10,7 @@ fresh-session-requires c κs = search needs
 
 returns : tie.Need-returns
 unfolding openPage openAs
-returns c = simp (ne-eqb _ _ (c .before .if1 .taken), c .fresh-session .ensures)
+returns c = opens (simp (ne-eqb _ _ (c .before .if1 .taken), c .fresh-session .ensures))
 
 initialise-requires : tie.Need-initialise-requires
 initialise-requires c κs = search needs
@@ -22,7 +23,7 @@ same-length c = search needs
 
 returns-2 : tie.Need-returns-2
 unfolding openPage openAs opened
-returns-2 c = simp (eq-eqb _ _ (c .before .before .before .before .before .if1 .left), c .fresh-session2 .ensures, c .before .before .before .initialise .ensures)
+returns-2 c = opens (simp (eq-eqb _ _ (c .before .before .before .before .before .if1 .left), c .fresh-session2 .ensures, c .before .before .before .initialise .ensures))
 
 pub open-spec : {M : Type 1} → statement M
 open-spec =

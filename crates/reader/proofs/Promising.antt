@@ -1,0 +1,28 @@
+-- The number of an answer follows from all that is handed over; `number-tells` and `shade-tells` (rules, Numbers) say that it
+-- determines the answer
+use Prim.Native.Nat.{ℕ}
+use mathlib.Core.Path.{_≡_, ap}
+use mathlib.Core.List.{List}
+use Rattle.rules.specs.declared.Session.{Session}
+use Rattle.rules.specs.declared.Shade.{Shade}
+use Rattle.rules.specs.Step.{State}
+use Rattle.rules.specs.Calls.{numberOf, Opening, openPage, Handed, feed, end, colour, shadeNumber, shadeValues}
+use Rattle.handing.specs.declared.Fed.{Fed}
+use Rattle.handing.specs.Handing.{handedOf}
+use Rattle.reader.specs.declared.open.Opened.{Opened}
+use Rattle.reader.specs.declared.end.Ended.{Ended}
+use Rattle.reader.specs.Answers.{openingOf}
+use Rattle.reader.specs.Ending.{endingOf}
+use Rattle.reader.specs.Promises.{Opens, Feeds, Ends, Shades}
+
+pub opens : {budget : ℕ} {store left : List ℕ} {r : Opened} → openingOf r left ≡ openPage budget store → Opens budget store r left
+opens e = record { number = ap (λ (o : Opening). numberOf (o .answer)) e; same = e }
+
+pub feeds : {w : State} {piece out left written : List ℕ} {r : Fed} → handedOf r left written ≡ feed w piece out → Feeds w piece out r left written
+feeds e = record { number = ap (λ (h : Handed). numberOf (h .answer)) e; same = e }
+
+pub ends : {w : State} {out written : List ℕ} {r : Ended} → endingOf r (w .store) written ≡ end w out → Ends w out r written
+ends e = record { number = ap (λ (h : Handed). numberOf (h .answer)) e; same = e }
+
+pub shades : {s : Session} {address : ℕ} {r : Shade} → r ≡ colour s address → Shades s address r
+shades e = record { number = ap shadeNumber e; values = ap shadeValues e; same = e }

@@ -1,0 +1,36 @@
+-- What each call promises: its number, and all that it hands over, are those of the rules. One name for each call, cited by its
+-- contract and by whoever calls it
+use Prim.Native.Nat.{ℕ}
+use mathlib.Core.Path.{_≡_}
+use mathlib.Core.List.{List}
+use Rattle.rules.specs.declared.Session.{Session}
+use Rattle.rules.specs.declared.Shade.{Shade}
+use Rattle.rules.specs.Step.{State}
+use Rattle.rules.specs.Calls.{numberOf, openPage, feed, end, colour, shadeNumber, shadeValues}
+use Rattle.handing.specs.declared.Fed.{Fed}
+use Rattle.handing.specs.Handing.{handedOf}
+use Rattle.reader.specs.declared.open.Opened.{Opened}
+use Rattle.reader.specs.declared.end.Ended.{Ended}
+use Rattle.reader.specs.Answers.{openingOf}
+use Rattle.reader.specs.Ending.{endingOf}
+
+-- Open, lent a store; left is the store as it is left
+pub record Opens (budget : ℕ) (store : List ℕ) (r : Opened) (left : List ℕ) : Type 0 where
+  pub number : numberOf (r .answer) ≡ numberOf (openPage budget store .answer)
+  pub same : openingOf r left ≡ openPage budget store
+
+-- Feed, lent the session and store w, a piece and an output; left and written are the store and the output as they are left
+pub record Feeds (w : State) (piece out : List ℕ) (r : Fed) (left written : List ℕ) : Type 0 where
+  pub number : numberOf (r .answer) ≡ numberOf (feed w piece out .answer)
+  pub same : handedOf r left written ≡ feed w piece out
+
+-- End, lent the session and store w and an output; it only reads the store
+pub record Ends (w : State) (out : List ℕ) (r : Ended) (written : List ℕ) : Type 0 where
+  pub number : numberOf (r .answer) ≡ numberOf (end w out .answer)
+  pub same : endingOf r (w .store) written ≡ end w out
+
+-- Colour, of a session and an address
+pub record Shades (s : Session) (address : ℕ) (r : Shade) : Type 0 where
+  pub number : shadeNumber r ≡ shadeNumber (colour s address)
+  pub values : shadeValues r ≡ shadeValues (colour s address)
+  pub same : r ≡ colour s address
