@@ -256,7 +256,7 @@ pub fn run_strokes<'a>(
         return no_strokes(pen, progress.written);
     }
     let at = progress.written;
-    let ran = strokes::run_strokes(pen, command, look, bytes, next.from, next.to, out, at);
+    let ran = strokes::draw_strokes(pen, command, look, bytes, next.from, next.to, out, at);
     read_past(progress.depth, ran.count, places);
     ran
 }

@@ -3,12 +3,12 @@
 use mathlib.Core.Path.{_≡_, refl}
 use mathlib.Core.List.{List}
 use Prim.Native.Nat.{ℕ}
-use Rattle.coding.specs.View.{KeptBy, Kept}
+use Rattle.coding.specs.View.{AsLentBy, AsLent}
 use Rattle.coding.specs.declared.reactions.Effect.{Effect}
 use Rattle.coding.specs.declared.reactions.Effect.the-variants.{Refuses, Calls, Acts, Uses, Designates}
 use Rattle.coding.specs.declared.reactions.Reacted.{Reacted}
 
-as-lent : (e : Effect) (lent left : List ℕ) → left ≡ lent → KeptBy e lent left
+as-lent : (e : Effect) (lent left : List ℕ) → left ≡ lent → AsLentBy e lent left
 as-lent (Refuses r) lent left h = h
 as-lent (Calls n) lent left h = h
 as-lent (Acts a) lent left h = tt
@@ -16,8 +16,8 @@ as-lent (Uses e) lent left h = h
 as-lent (Designates e x) lent left h = h
 
 module _ (r : Reacted) where
-  pub kept-as-lent : (lent left : List ℕ) → left ≡ lent → Kept r lent left
+  pub kept-as-lent : (lent left : List ℕ) → left ≡ lent → AsLent r lent left
   kept-as-lent lent left h = as-lent (r .effect) lent left h
 
-  pub unchanged : (f st : List ℕ) → (Kept r f f) × (Kept r st st)
+  pub unchanged : (f st : List ℕ) → (AsLent r f f) × (AsLent r st st)
   unchanged f st = (kept-as-lent f f refl, kept-as-lent st st refl)

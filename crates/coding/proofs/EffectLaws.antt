@@ -28,7 +28,7 @@ use Rattle.rules.specs.declared.Set.{Set}
 use Rattle.rules.specs.declared.Set.the-variants.{Characters, Pdi, Macro}
 use Rattle.rules.specs.declared.Waiting.{Waiting}
 use Rattle.rules.specs.declared.Waiting.the-variants.{Nothing, Shifted, Escape, Designator, Longer, Name, Body, BodyEscape}
-use Rattle.rules.specs.Store.{firstOf, Freeing, NotFreed, Freed, freeBody, Storing, NotStored, Stored, storeByte, storeEscapeAnd}
+use Rattle.rules.specs.Store.{firstOf, Freeing, NotFreed, Freed, freeBody, Storing, NotStored, Stored, storeByte, storeEscapeAnd, esc}
 use Rattle.rules.specs.Coding.{Reaction, Refuse, Call, React, setOf, shiftedTo, wait, named, openBody, keep, filling, inBody, innerOf, inBodyEscape, finalOf, escape, designatedBy, designation, control, graphic, classOf, reactTo, react}
 use Rattle.macros.specs.Lent.{IsName}
 use Rattle.coding.specs.View.{codingOf, effectOn, setsAfter, reactionOf}
@@ -104,7 +104,7 @@ module _ (c : Coding) (st : List ℕ) (b : ℕ) where
   inner-told OpensNext d = inl (refl, refl)
   inner-told Bars d = tt
   inner-told EndsBody d = inl (refl, refl)
-  inner-told StartsAfresh d = keep-told BodyEscape (storeByte (filling d c st) 27)
+  inner-told StartsAfresh d = keep-told BodyEscape (storeByte (filling d c st) esc)
   inner-told StoresBoth d = keep-told Body (storeEscapeAnd (filling d c st) b)
 
   waiting-told : (w : Waiting) (k : Class) → Graphic k b → Told c st b (reactTo w k c st b)
@@ -127,7 +127,7 @@ module _ (c : Coding) (st : List ℕ) (b : ℕ) where
   waiting-told Name (Below k) h = tt
   waiting-told Name Column2 h = named-told (freeBody (firstOf (c .firsts) b) st)
   waiting-told Name Above h = named-told (freeBody (firstOf (c .firsts) b) st)
-  waiting-told (Body d) k h = body-told (eqb b 27) d
+  waiting-told (Body d) k h = body-told (eqb b esc) d
   waiting-told (BodyEscape d) k h = inner-told (innerOf b) d
 
   pub told : Told c st b (react c st b)

@@ -40,15 +40,15 @@ abbrev pub reactionOf : Sets → Reacted → List ℕ → List ℕ → Reaction
 reactionOf s r f st = effectOn (r .effect) (codingOf (setsAfter (r .effect) s) (r .waiting) f) st
 
 -- "A refused step changes nothing", and neither does a call or a change of the sets: what is left is what was lent
-abbrev pub KeptBy : Effect → List ℕ → List ℕ → Type 0
-KeptBy (Refuses r) lent left = left ≡ lent
-KeptBy (Calls n) lent left = left ≡ lent
-KeptBy (Acts a) lent left = Unit
-KeptBy (Uses e) lent left = left ≡ lent
-KeptBy (Designates e x) lent left = left ≡ lent
+abbrev pub AsLentBy : Effect → List ℕ → List ℕ → Type 0
+AsLentBy (Refuses r) lent left = left ≡ lent
+AsLentBy (Calls n) lent left = left ≡ lent
+AsLentBy (Acts a) lent left = Unit
+AsLentBy (Uses e) lent left = left ≡ lent
+AsLentBy (Designates e x) lent left = left ≡ lent
 
-abbrev pub Kept : Reacted → List ℕ → List ℕ → Type 0
-Kept r lent left = KeptBy (r .effect) lent left
+abbrev pub AsLent : Reacted → List ℕ → List ℕ → Type 0
+AsLent r lent left = AsLentBy (r .effect) lent left
 
 -- The code element that a byte is read from: the one a single shift names, else the one in use
 unfoldable pub elementRead : Waiting → Sets → Element

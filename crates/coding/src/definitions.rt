@@ -2,12 +2,12 @@
 use crate::reactions::Reacted;
 use crate::reactions::refuse;
 use crate::reactions::wait_for;
-use macros::cells::ESC;
 use macros::chains::FreeAnswer;
 use macros::chains::free_body;
 use macros::names::first_of;
 use macros::names::set_first;
 use rules::Definition;
+use rules::ESC;
 use rules::Inner;
 use rules::Refusal;
 use rules::Waiting;
@@ -21,15 +21,16 @@ ghost use mathlib.Core.Path.{_≡_};
 ghost use Prim.Native.Nat.{ℕ, _≤_};
 ghost use Rattle.rules.specs.declared.Sets.{Sets};
 ghost use Rattle.rules.specs.Coding.{keep, openBody, inBody, innerOf, inBodyEscape, classOf, reactTo};
+ghost use Rattle.rules.specs.Store.{esc};
 ghost use Rattle.macros.specs.Lent.{Sized, IsName};
 ghost use Rattle.storing.specs.Storing.{storingOf, KeptIfRefused};
-ghost use Rattle.coding.specs.View.{codingOf, reactionOf, Kept};
+ghost use Rattle.coding.specs.View.{codingOf, reactionOf, AsLent};
 
 // Frees the old body of the name.
 fn open_body(firsts: &mut [u8; 96], store: &mut [u8], name: u8) -> Reacted
     requires { ⌜ (Sized (now store)) × (IsName name) ⌝ }
     ensures reaction { λ r. ⌜ ((s : Sets) → reactionOf s r (now (firsts .exit)) (now (store .exit)) ≡ openBody name (codingOf s Waiting.Name (now (firsts .entry))) (now (store .entry))) ⌝ }
-    ensures kept { λ r. ⌜ (Kept r (now (firsts .entry)) (now (firsts .exit))) × (Kept r (now (store .entry)) (now (store .exit))) ⌝ }
+    ensures kept { λ r. ⌜ (AsLent r (now (firsts .entry)) (now (firsts .exit))) × (AsLent r (now (store .entry)) (now (store .exit))) ⌝ }
 {
     match free_body(store, first_of(firsts, name)) {
         FreeAnswer::Refused(refusal) => refuse(refusal),
@@ -43,7 +44,7 @@ fn open_body(firsts: &mut [u8; 96], store: &mut [u8], name: u8) -> Reacted
 pub fn take_name(firsts: &mut [u8; 96], store: &mut [u8], byte: u8) -> Reacted
     requires { ⌜ (Sized (now store)) × (byte ≤ 127) ⌝ }
     ensures reaction { λ r. ⌜ ((s : Sets) → reactionOf s r (now (firsts .exit)) (now (store .exit)) ≡ reactTo Waiting.Name (classOf byte) (codingOf s Waiting.Name (now (firsts .entry))) (now (store .entry)) byte) ⌝ }
-    ensures kept { λ r. ⌜ (Kept r (now (firsts .entry)) (now (firsts .exit))) × (Kept r (now (store .entry)) (now (store .exit))) ⌝ }
+    ensures kept { λ r. ⌜ (AsLent r (now (firsts .entry)) (now (firsts .exit))) × (AsLent r (now (store .entry)) (now (store .exit))) ⌝ }
 {
     if byte < 32 {
         return refuse(Refusal::NameBelow);
@@ -54,7 +55,7 @@ pub fn take_name(firsts: &mut [u8; 96], store: &mut [u8], byte: u8) -> Reacted
 // The definition goes on after what was stored.
 fn keep_body(answer: StoreAnswer) -> Reacted
     ensures reaction { λ r. ⌜ ((s : Sets) (w : Waiting) (f g st : List ℕ) → reactionOf s r f st ≡ keep Waiting.Body (storingOf answer f st) (codingOf s w g)) ⌝ }
-    ensures kept { λ r. ⌜ ((lent left : List ℕ) → KeptIfRefused answer lent left → Kept r lent left) ⌝ }
+    ensures kept { λ r. ⌜ ((lent left : List ℕ) → KeptIfRefused answer lent left → AsLent r lent left) ⌝ }
 {
     match answer {
         StoreAnswer::Refused(refusal) => refuse(refusal),
@@ -65,7 +66,7 @@ fn keep_body(answer: StoreAnswer) -> Reacted
 // An ESC was read after what was stored.
 fn keep_escape(answer: StoreAnswer) -> Reacted
     ensures reaction { λ r. ⌜ ((s : Sets) (w : Waiting) (f g st : List ℕ) → reactionOf s r f st ≡ keep Waiting.BodyEscape (storingOf answer f st) (codingOf s w g)) ⌝ }
-    ensures kept { λ r. ⌜ ((lent left : List ℕ) → KeptIfRefused answer lent left → Kept r lent left) ⌝ }
+    ensures kept { λ r. ⌜ ((lent left : List ℕ) → KeptIfRefused answer lent left → AsLent r lent left) ⌝ }
 {
     match answer {
         StoreAnswer::Refused(refusal) => refuse(refusal),
@@ -75,8 +76,8 @@ fn keep_escape(answer: StoreAnswer) -> Reacted
 
 pub fn in_body(definition: Definition, firsts: &mut [u8; 96], store: &mut [u8], byte: u8) -> Reacted
     requires { ⌜ (Sized (now store)) × (IsName (definition .name)) ⌝ }
-    ensures reaction { λ r. ⌜ ((s : Sets) → reactionOf s r (now (firsts .exit)) (now (store .exit)) ≡ inBody (eqb byte 27) definition (codingOf s (Waiting.Body definition) (now (firsts .entry))) (now (store .entry)) byte) ⌝ }
-    ensures kept { λ r. ⌜ (Kept r (now (firsts .entry)) (now (firsts .exit))) × (Kept r (now (store .entry)) (now (store .exit))) ⌝ }
+    ensures reaction { λ r. ⌜ ((s : Sets) → reactionOf s r (now (firsts .exit)) (now (store .exit)) ≡ inBody (eqb byte esc) definition (codingOf s (Waiting.Body definition) (now (firsts .entry))) (now (store .entry)) byte) ⌝ }
+    ensures kept { λ r. ⌜ (AsLent r (now (firsts .entry)) (now (firsts .exit))) × (AsLent r (now (store .entry)) (now (store .exit))) ⌝ }
 {
     if byte == ESC {
         return wait_for(Waiting::BodyEscape(definition));
@@ -93,7 +94,7 @@ pub fn in_body_escape(
 ) -> Reacted
     requires { ⌜ (Sized (now store)) × (IsName (definition .name)) ⌝ }
     ensures reaction { λ r. ⌜ ((s : Sets) → reactionOf s r (now (firsts .exit)) (now (store .exit)) ≡ inBodyEscape (innerOf byte) definition (codingOf s (Waiting.BodyEscape definition) (now (firsts .entry))) (now (store .entry)) byte) ⌝ }
-    ensures kept { λ r. ⌜ (Kept r (now (firsts .entry)) (now (firsts .exit))) × (Kept r (now (store .entry)) (now (store .exit))) ⌝ }
+    ensures kept { λ r. ⌜ (AsLent r (now (firsts .entry)) (now (firsts .exit))) × (AsLent r (now (store .entry)) (now (store .exit))) ⌝ }
 {
     match inner_of(byte) {
         Inner::OpensNext => wait_for(Waiting::Name),

@@ -24,7 +24,7 @@ ghost use mathlib.Core.Bool.{true};
 ghost use Rattle.rules.specs.Coding.{react};
 ghost use Rattle.rules.specs.Ranges.{waitingFits};
 ghost use Rattle.macros.specs.Lent.{Sized};
-ghost use Rattle.coding.specs.View.{codingOf, reactionOf, elementRead, Kept};
+ghost use Rattle.coding.specs.View.{codingOf, reactionOf, elementRead, AsLent};
 
 // The element that a byte is read from: the one a single shift names, else the one in use.
 fn element_read(waiting: Waiting, sets: Sets) -> Element
@@ -46,7 +46,7 @@ pub fn react(
 ) -> Reacted
     requires { ⌜ (Sized (now store)) × (waitingFits waiting ≡ true) ⌝ }
     ensures reaction { λ r. ⌜ reactionOf sets r (now (firsts .exit)) (now (store .exit)) ≡ react (codingOf sets waiting (now (firsts .entry))) (now (store .entry)) byte ⌝ }
-    ensures kept { λ r. ⌜ (Kept r (now (firsts .entry)) (now (firsts .exit))) × (Kept r (now (store .entry)) (now (store .exit))) ⌝ }
+    ensures kept { λ r. ⌜ (AsLent r (now (firsts .entry)) (now (firsts .exit))) × (AsLent r (now (store .entry)) (now (store .exit))) ⌝ }
 {
     if 127 < byte {
         return refuse(Refusal::ByteOver127);

@@ -11,7 +11,7 @@ ghost use mathlib.Core.List.{List};
 ghost use mathlib.Core.Path.{_≡_};
 ghost use Prim.Native.Nat.{ℕ};
 ghost use Rattle.rules.specs.Coding.{Refuse, Call, React, inUse, designate};
-ghost use Rattle.coding.specs.View.{codingOf, setsAfter, reactionOf, Kept};
+ghost use Rattle.coding.specs.View.{codingOf, setsAfter, reactionOf, AsLent};
 
 // The last two say what changes of the sets, which the others leave; they ask nothing of drawing.
 pub enum Effect {
@@ -50,7 +50,7 @@ pub fn refuse(refusal: Refusal) -> Reacted
 // Asks nothing of drawing. A definition may have changed first cells and store.
 pub fn wait_for(waiting: Waiting) -> Reacted
     ensures reaction { λ r. ⌜ ((s : Sets) (f st : List ℕ) → reactionOf s r f st ≡ React (codingOf s waiting f) st Action.Idle) ⌝ }
-    ensures kept { λ r. ⌜ ((lent left : List ℕ) → Kept r lent left) ⌝ }
+    ensures kept { λ r. ⌜ ((lent left : List ℕ) → AsLent r lent left) ⌝ }
 {
     Reacted {
         effect: Effect::Acts(Action::Idle),

@@ -24,11 +24,13 @@ use Rattle.rules.specs.declared.Row.{Row}
 use Rattle.rules.specs.declared.Set.{Set}
 use Rattle.rules.specs.declared.Set.the-variants.{Pdi}
 use Rattle.rules.specs.Coding.{controls}
-use Rattle.rules.specs.Drawing.{other, rows, rowOf, roleOf, noOperand, Outcome, Refuse, Draw, act}
+use Rattle.rules.specs.Drawing.{other, rows, rowOf, roleOf, noOperand, Outcome, NotDrawn, Draw, act}
 use Rattle.rules.specs.Ranges.{domainFits}
 use Rattle.rules.proofs.DrawingRanges.{dropped-same}
+use Rattle.rules.proofs.OpcodeRows.{row-at}
 use Rattle.rules.proofs.Tables.{at}
 use Rattle.rules.proofs.Bools.{false-true, and-left, and-right, pick-yes, pick-no}
+use Rattle.rules.specs.Reading.{roomForStep}
 use Rattle.figures.specs.Carried.{Carried, carry, drawingOf}
 use Rattle.figures.proofs.Carrying.{carry-none}
 use Rattle.runs.specs.declared.Ran.{Ran}
@@ -39,13 +41,13 @@ use Rattle.runs.proofs.ActsLaws.{data-acts, control-acts, opcode-acts}
 
 -- A step more, its answer given
 pub run-step : {s : Set} {bytes : List ℕ} {from n : ℕ} {x y : Carried} (a : Action) (z : Carried) → Run s bytes from x n y
-    → ActsAs s (getD bytes (from + n) 0) a → y .at + 120 ≤ length (y .output) → z .refused ≡ false
+    → ActsAs s (getD bytes (from + n) 0) a → y .at + roomForStep ≤ length (y .output) → z .refused ≡ false
     → z ≡ carry (act a (y .drawing)) (y .drawing) (y .at) (y .output) → Run s bytes from x (n + 1) z
 unfolding carry
 run-step {s} {bytes} {from} {n} {x} {y} a z r acts room f e = by (act a (y .drawing)) refl
   where
     by : (o : Outcome) → act a (y .drawing) ≡ o → Run s bytes from x (n + 1) z
-    by (Refuse q) h = false-true (sym f ∙ ap (λ (c : Carried). c .refused) (e ∙ ap (λ (p : Outcome). carry p (y .drawing) (y .at) (y .output)) h))
+    by (NotDrawn q) h = false-true (sym f ∙ ap (λ (c : Carried). c .refused) (e ∙ ap (λ (p : Outcome). carry p (y .drawing) (y .at) (y .output)) h))
     by (Draw d rs) h =
         subst (λ (j : ℕ). Run s bytes from x j z) (sym (add-one n))
         (subst (Run s bytes from x (suc n)) (sym (e ∙ ap (λ (p : Outcome). carry p (y .drawing) (y .at) (y .output)) h)) (more r acts room h))
@@ -88,7 +90,7 @@ reaches-none bytes from p₀ c l m at out =
 -- A byte opens or closes
 pub reaches-opened : (bytes : List ℕ) (from : ℕ) (x : Carried) (p₀ : Pen) (i : ℕ) (p : Point) (c : Command) (l : Look) (m : List ℕ) (at : ℕ) (out : List ℕ)
     (a : Action) (q : Point) (c′ : Command) (at′ : ℕ) (out′ : List ℕ)
-    → from ≤ i → p₀ .operand .count ≡ 0 → penAfter (i - from) p₀ p .point ≡ p → at + 120 ≤ length out → ActsAs Pdi (getD bytes i 0) a
+    → from ≤ i → p₀ .operand .count ≡ 0 → penAfter (i - from) p₀ p .point ≡ p → at + roomForStep ≤ length out → ActsAs Pdi (getD bytes i 0) a
     → ((o : Operand) → o .count ≡ 0 → standing (penAt q noOperand) c′ l m at′ out′ ≡ carry (act a (drawingOf (penAt p o) c l m)) (drawingOf (penAt p o) c l m) at out)
     → Reaches bytes from x p₀ i p c l m at out
     → Reaches bytes from x p₀ (i + 1) q c′ l m at′ out′
@@ -110,7 +112,7 @@ data-nothing b d at out r own role =
     ∙ ap (λ (o : Outcome). carry o d at out) (sym (dropped-same b d (subst (λ (x : Row). roleOf (x .pattern) (d .command .due) ≡ Dropped) own role)))
 
 pub reaches-dropped : (bytes : List ℕ) (from : ℕ) (x : Carried) (p₀ : Pen) (i : ℕ) (p : Point) (c : Command) (l : Look) (m : List ℕ) (at : ℕ) (out : List ℕ) (r : Row)
-    → 1 ≤ i - from → at + 120 ≤ length out → 64 ≤ getD bytes i 0 → getD bytes i 0 ≤ 127 → r ≡ rowOf (c .opcode) → roleOf (r .pattern) (c .due) ≡ Dropped
+    → 1 ≤ i - from → at + roomForStep ≤ length out → 64 ≤ getD bytes i 0 → getD bytes i 0 ≤ 127 → r ≡ rowOf (c .opcode) → roleOf (r .pattern) (c .due) ≡ Dropped
     → Reaches bytes from x p₀ i p c l m at out
     → Reaches bytes from x p₀ (i + 1) p c l m at out
 reaches-dropped bytes from x p₀ i p c l m at out r some room least most own role run =
@@ -135,15 +137,15 @@ reaches-end bytes from to p₀ c₀ at₀ out₀ i p c l at out r h k e runs = (
 
 -- The row of a byte in the table
 pub row-next : {table : List Row} → table ≡ rows → (k b : ℕ) (d : Row) → k ≡ b - 32 → b < 64 → getD table k d ≡ rowOf b
-unfolding rows rowOf
+unfolding rows
 row-next test k b d e h =
     let l : k < 32 = omega arith in
-    at rows test k d other l ∙ ap (λ (j : ℕ). getD rows j other) e
+    at rows test k d other l ∙ ap (λ (j : ℕ). getD rows j other) e ∙ row-at b
 
 -- With no command open, the row after a control is that of opcode 0
 pub row-control : (b : ℕ) → b < 32 → rowOf b ≡ rowOf 0
 unfolding rowOf
-row-control b h = let e : b - 32 ≡ 0 - 32 = omega arith in rw e
+row-control b h = rw (lt-ltb b 32 h)
 
 -- A recorded control asks for its record, an opcode to be opened
 pub control-asked : (b : ℕ) → b < 32 → getD controls b Ignored ≡ Recorded → ActsAs Pdi b (asked b)

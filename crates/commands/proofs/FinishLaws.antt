@@ -18,7 +18,7 @@ use Rattle.rules.specs.declared.Role.{Role}
 use Rattle.rules.specs.declared.Role.the-variants.{MoveTo, DrawTo, DrawBy, Middle, ArcEnd, Start, Edge, Lengths, Pel, Foreground, Background, Shade, Dropped}
 use Rattle.rules.specs.declared.Row.{Row}
 use Rattle.rules.specs.Record.{words, bytesOf, flags, origin, recordOf, figure, mark}
-use Rattle.rules.specs.Drawing.{rowOf, roleOf, noOperand, Draw, arcTo, closingEdge, finish, opened, close, openCommand, act}
+use Rattle.rules.specs.Drawing.{rowOf, roleOf, noOperand, Draw, arcTo, closingEdge, finish, newCommand, close, openCommand, act}
 use Rattle.rules.proofs.Bools.{true-false}
 use Rattle.records.specs.declared.Head.{Head}
 use Rattle.records.specs.Bytes.{overwrite, headBytes}
@@ -108,38 +108,38 @@ module _ (p q : Point) (o : Operand) (c : Command) (l : Look) (m : List ℕ) (at
   d = drawingOf (penAt p o) c l m
 
   abbrev shut : Drawing
-  shut = drawingOf (penAt q noOperand) (opened 0 origin) l m
+  shut = drawingOf (penAt q noOperand) (newCommand 0 origin) l m
 
   pub closed : (row : Row) (n : Role) → row ≡ rowOf (c .opcode) → n ≡ roleOf (row .pattern) (c .due) → o .count ≡ 0 → at + 40 ≤ length out
       → standing (penAt q o) c l m at′ out′ ≡ carry (finish n (row .filled) d) d at out
-      → standing (penAt q noOperand) (opened 0 origin) l m at′ out′ ≡ carry (close d) d at out
+      → standing (penAt q noOperand) (newCommand 0 origin) l m at′ out′ ≡ carry (close d) d at out
   closed row n e f z h g =
       let i = sym (carry-none d d at out) ∙ none-begun row d at out z in
       sym (carry-none shut (drawingOf (penAt q o) c l m) at′ out′)
       ∙ close-drawn row d at out (standing (penAt p o) c l m at out) e i n (standing (penAt q o) c l m at′ out′) h refl f g
 
-  module _ (b : ℕ) (e : standing (penAt q noOperand) (opened 0 origin) l m at′ out′ ≡ carry (close d) d at out) (h : at ≤ length out) (c′ : Command) where
+  module _ (b : ℕ) (e : standing (penAt q noOperand) (newCommand 0 origin) l m at′ out′ ≡ carry (close d) d at out) (h : at ≤ length out) (c′ : Command) where
     -- A control has its record
-    pub next-control : (out″ : List ℕ) → b < 32 → c′ ≡ opened 0 origin → out″ ≡ overwrite at′ (bytesOf (mark l 7 0 b q)) out′
+    pub next-control : (out″ : List ℕ) → b < 32 → c′ ≡ newCommand 0 origin → out″ ≡ overwrite at′ (bytesOf (mark l 7 0 b q)) out′
         → standing (penAt q noOperand) c′ l m (at′ + 40) out″ ≡ carry (act (asked b) d) d at out
     unfolding act
     next-control out″ k f w =
         rw (lt-ltb b 32 k, f)
-        (then-drawn (close d) _ d at out (standing (penAt q noOperand) (opened 0 origin) l m at′ out′) _ e refl h tt (wrote (mark l 7 0 b q) shut shut at′ out′ out″ w refl))
+        (then-drawn (close d) _ d at out (standing (penAt q noOperand) (newCommand 0 origin) l m at′ out′) _ e refl h tt (wrote (mark l 7 0 b q) shut shut at′ out′ out″ w refl))
 
     -- An opcode opens a command, with a record where its data is dropped
-    module _ (row : Row) (k : 32 ≤ b) (f : c′ ≡ opened b q) (r : row ≡ rowOf b) where
+    module _ (row : Row) (k : 32 ≤ b) (f : c′ ≡ newCommand b q) (r : row ≡ rowOf b) where
       pub next-marked : (out″ : List ℕ) → row .kind ≡ 9 → out″ ≡ overwrite at′ (bytesOf (mark l 9 0 b q)) out′
           → standing (penAt q noOperand) c′ l m (at′ + 40) out″ ≡ carry (act (asked b) d) d at out
       unfolding act openCommand
       next-marked out″ i w =
           rw (le-ltb b 32 k, f)
-          (then-drawn (close d) (openCommand b) d at out (standing (penAt q noOperand) (opened 0 origin) l m at′ out′) _ e refl h tt
-          (wrote (mark l 9 0 b q) (drawingOf (penAt q noOperand) (opened b q) l m) shut at′ out′ out″ w (rw (eq-eqb (rowOf b .kind) 9 (rw r at i)))))
+          (then-drawn (close d) (openCommand b) d at out (standing (penAt q noOperand) (newCommand 0 origin) l m at′ out′) _ e refl h tt
+          (wrote (mark l 9 0 b q) (drawingOf (penAt q noOperand) (newCommand b q) l m) shut at′ out′ out″ w (rw (eq-eqb (rowOf b .kind) 9 (rw r at i)))))
 
       pub next-plain : (row .kind ≡ 9 → ⊥) → standing (penAt q noOperand) c′ l m at′ out′ ≡ carry (act (asked b) d) d at out
       unfolding act openCommand
       next-plain i =
           rw (le-ltb b 32 k, f)
-          (then-drawn (close d) (openCommand b) d at out (standing (penAt q noOperand) (opened 0 origin) l m at′ out′) _ e refl h tt
-          (wrote-none (drawingOf (penAt q noOperand) (opened b q) l m) shut at′ out′ (rw (ne-eqb (rowOf b .kind) 9 (rw r at i)))))
+          (then-drawn (close d) (openCommand b) d at out (standing (penAt q noOperand) (newCommand 0 origin) l m at′ out′) _ e refl h tt
+          (wrote-none (drawingOf (penAt q noOperand) (newCommand b q) l m) shut at′ out′ (rw (ne-eqb (rowOf b .kind) 9 (rw r at i)))))

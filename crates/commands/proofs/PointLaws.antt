@@ -24,6 +24,7 @@ use Rattle.rules.specs.Operands.{point, displaced, displacedOut}
 use Rattle.rules.specs.Record.{flags, origin, figure}
 use Rattle.rules.specs.Drawing.{rowOf, roleOf, dueAfter, lengthOf, withDue, withOperand, withStart, withVertices, noOperand, Outcome, Draw, apply, drawFigure, arcMiddle, arcTo, edgeBy, nextOperand}
 use Rattle.rules.proofs.Bools.{true-false, false-true, pick-yes}
+use Rattle.rules.specs.Reading.{roomForStep}
 use Rattle.coordinates.specs.declared.whole.Whole.{Whole}
 use Rattle.coordinates.specs.declared.whole.Whole.the-variants.{Cut, Whole as Whole·point}
 use Rattle.coordinates.specs.Data.{allData, wholeOf}
@@ -143,7 +144,7 @@ module _ (bytes : List ℕ) (from n : ℕ) (x : Carried) (p : Point) (o : Operan
   abbrev role : Role
   role = roleOf (row .pattern) (c .due)
 
-  point-run : at + 120 ≤ length out → isPoint role (c .vertices) ≡ true → k ≡ l .domain .multi → 1 ≤ k → k ≤ length (o .bytes)
+  point-run : at + roomForStep ≤ length out → isPoint role (c .vertices) ≡ true → k ≡ l .domain .multi → 1 ≤ k → k ≤ length (o .bytes)
       → from + n + k ≤ length bytes → o .count ≡ 0 → allData bs ≡ true
       → (q : Point) (c′ : Command) (at′ : ℕ) (out′ : List ℕ)
       → ((a : Operand) → standing (penAt q a) c′ l m at′ out′ ≡ carry (apply role row bs (d a)) (d a) at out)
@@ -161,7 +162,7 @@ module _ (bytes : List ℕ) (from n : ℕ) (x : Carried) (p : Point) (o : Operan
 points-more : (bytes : List ℕ) (from n : ℕ) (x : Carried) (p : Point) (o : Operand) (c : Command) (l : Look) (m : List ℕ) (at : ℕ) (out : List ℕ) (k : ℕ)
     (row : Row) (role : Role) (three : Bool) (v q : Point) (c′ : Command) (at′ : ℕ) (out′ : List ℕ) (c″ : Command)
     → row ≡ rowOf (c .opcode) → role ≡ roleOf (row .pattern) (c .due) → isPoint role (c .vertices) ≡ true
-    → at + 120 ≤ length out → k ≡ l .domain .multi → 1 ≤ k → k ≤ length (o .bytes)
+    → at + roomForStep ≤ length out → k ≡ l .domain .multi → 1 ≤ k → k ≤ length (o .bytes)
     → from + n + k ≤ length bytes → o .count ≡ 0
     → three ≡ l .domain .three → wholeOf three (take k (drop (from + n) bytes)) ≡ Whole·point v
     → ((bs : List ℕ) (a : Operand) → v ≡ point (l .domain .three) bs → standing (penAt q a) c′ l m at′ out′ ≡ carry (apply role row bs (drawingOf (penAt p a) c l m)) (drawingOf (penAt p a) c l m) at out)
@@ -180,7 +181,7 @@ pub reaches-point : (bytes : List ℕ) (from : ℕ) (x : Carried) (p₀ : Pen) (
     (row : Row) (role : Role) (three : Bool) (v q : Point) (c′ : Command) (at′ : ℕ) (out′ : List ℕ) (c″ : Command)
     → from ≤ i → p₀ .operand .count ≡ 0 → length (p₀ .operand .bytes) ≡ 8 → penAfter (i - from) p₀ p .point ≡ p
     → row ≡ rowOf (c .opcode) → role ≡ roleOf (row .pattern) (c .due) → isPoint role (c .vertices) ≡ true
-    → at + 120 ≤ length out → k ≡ l .domain .multi → 1 ≤ k → k ≤ 8 → i + k ≤ length bytes
+    → at + roomForStep ≤ length out → k ≡ l .domain .multi → 1 ≤ k → k ≤ 8 → i + k ≤ length bytes
     → three ≡ l .domain .three → wholeOf three (take k (drop i bytes)) ≡ Whole·point v
     → ((bs : List ℕ) (a : Operand) → v ≡ point (l .domain .three) bs → standing (penAt q a) c′ l m at′ out′ ≡ carry (apply role row bs (drawingOf (penAt p a) c l m)) (drawingOf (penAt p a) c l m) at out)
     → c″ ≡ withDue (dueAfter (row .pattern) (c′ .due)) c′

@@ -1,15 +1,15 @@
 // Commands finished and opened in a run, with no operand begun.
 use crate::tracing::put_arc;
 use crate::tracing::put_figure;
-use drawing::closing::opened;
+use drawing::closing::new_command;
 use drawing::operands::role_due;
-use figures::answers::ORIGIN;
 use records::Head;
 use records::flags;
 use records::put_words;
 use records::with_code;
 use records::with_kind;
 use rules::Command;
+use rules::ORIGIN;
 use rules::Point;
 use rules::Role;
 use rules::Row;
@@ -22,6 +22,7 @@ ghost use Rattle.rules.specs.declared.Look.{Look};
 ghost use Rattle.rules.specs.declared.Operand.{Operand};
 ghost use Rattle.rules.specs.Record.{bytesOf, mark};
 ghost use Rattle.rules.specs.Drawing.{rowOf, roleOf, noOperand, finish, closingEdge, act};
+ghost use Rattle.rules.specs.Reading.{roomForStep};
 ghost use Rattle.records.specs.Bytes.{overwrite};
 ghost use Rattle.figures.specs.Carried.{carryOut, drawingOf};
 ghost use Rattle.runs.specs.Run.{standing};
@@ -123,7 +124,7 @@ pub fn open_next(
     out: &mut [u8],
     at: usize,
 ) -> Opened
-    requires { ⌜ (row ≡ rowOf (command .opcode)) × (isForeground (roleOf (row .pattern) (command .due)) ≡ false) × (at + 120 ≤ length (now out)) × (next ≡ rowOf byte) ⌝ }
+    requires { ⌜ (row ≡ rowOf (command .opcode)) × (isForeground (roleOf (row .pattern) (command .due)) ≡ false) × (at + roomForStep ≤ length (now out)) × (next ≡ rowOf byte) ⌝ }
     ensures { λ r. ⌜ ((l : Look) (o : Operand) (m : List ℕ) → Inks ink pel l → o .count ≡ 0 → standing (penAt (r .point) noOperand) (r .command) l m (r .at) (now (out .exit)) ≡ carryOut (act (asked byte)) (drawingOf (penAt p o) command l m) at (now (out .entry))) × (r .row ≡ rowOf (r .command .opcode)) × (r .at ≤ at + 80) ⌝ }
 {
     let role = role_due(row, command);
@@ -135,11 +136,11 @@ pub fn open_next(
         return Opened {
             at: at + 40,
             point,
-            command: opened(0, ORIGIN),
+            command: new_command(0, ORIGIN),
             row: next,
         };
     }
-    let command = opened(byte, point);
+    let command = new_command(byte, point);
     if next.kind == 9 {
         put_mark(ink, 9, byte, point, pel, out, at);
         return Opened {

@@ -1,12 +1,13 @@
 // Points applied in a run: what each draws, by its role, from the numbers that a run keeps.
 use coordinates::Displaced;
 use coordinates::displace;
-use figures::answers::ORIGIN;
 use records::Head;
 use records::flags;
 use records::put_words;
 use records::with_kind;
 use rules::Command;
+use rules::MOST_VERTICES;
+use rules::ORIGIN;
 use rules::Point;
 use rules::Role;
 use rules::Row;
@@ -19,13 +20,11 @@ ghost use Rattle.rules.specs.declared.Look.{Look};
 ghost use Rattle.rules.specs.declared.Operand.{Operand};
 ghost use Rattle.rules.specs.Operands.{point, displaced, displacedOut};
 ghost use Rattle.rules.specs.Record.{bytesOf, flags, figure};
-ghost use Rattle.rules.specs.Drawing.{withStart, apply, drawFigure, arcTo, edgeBy};
+ghost use Rattle.rules.specs.Drawing.{withStart, apply, drawFigure, arcTo, edgeBy, mostVertices};
 ghost use Rattle.records.specs.Bytes.{overwrite};
 ghost use Rattle.figures.specs.Carried.{carryOut, drawingOf};
 ghost use Rattle.runs.specs.Run.{standing};
 ghost use Rattle.commands.specs.Tracing.{Inks, penAt, TracesBy, Near, isRelative, aim, strays, isPoint};
-
-const MOST_VERTICES: u16 = 256;
 
 // The place after the records of a point, the drawing point and the open command.
 pub struct Traced {
@@ -219,7 +218,7 @@ fn edge(
     out: &mut [u8],
     at: usize,
 ) -> Traced
-    requires { ⌜ (command .vertices < 256) × (at + 40 ≤ length (now out)) ⌝ }
+    requires { ⌜ (command .vertices < mostVertices) × (at + 40 ≤ length (now out)) ⌝ }
     ensures { λ r. ⌜ ((v : Point) → q ≡ displaced p v → wrapped ≡ displacedOut p v → TracesBy (edgeBy filled v) ink pel p command at (now (out .entry)) r (now (out .exit))) × Near command at r ⌝ }
 {
     let flags = flags(filled, wrapped, false);

@@ -71,7 +71,7 @@ fn put_bits(top: u32, bits: u32, shift: u32) -> u32
 }
 
 // The point of an operand with one more byte, after i bytes.
-pub fn join_byte(p: Point, three: bool, i: u32, byte: u8) -> Point
+pub fn gather_byte(p: Point, three: bool, i: u32, byte: u8) -> Point
     requires { ⌜ i < 8 ⌝ }
     ensures { λ r. ⌜ r ≡ joined three i byte p ⌝ }
 {
@@ -96,7 +96,7 @@ pub fn read_point(bytes: &[u8], three: bool) -> Point
     let mut p = Point { x: 0, y: 0 };
     let mut i = 0;
     while i < bytes.len() {
-        p = join_byte(p, three, i as u32, bytes[i]);
+        p = gather_byte(p, three, i as u32, bytes[i]);
         i += 1;
     }
     p

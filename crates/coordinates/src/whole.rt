@@ -1,5 +1,5 @@
 // Operands whose bytes have all come. Those of the default domain, three bytes in two dimensions, are read as one number.
-use crate::join_byte;
+use crate::gather_byte;
 use rules::Point;
 ghost use mathlib.Core.Path.{_≡_};
 ghost use mathlib.Core.Bool.{false, not, _&&_};
@@ -77,7 +77,7 @@ fn whole_long(bytes: &[u8], at: usize, n: usize, three: bool) -> Whole
         if byte / 64 != 1 {
             return Whole::Cut;
         }
-        p = join_byte(p, three, i as u32, byte);
+        p = gather_byte(p, three, i as u32, byte);
         i += 1;
     }
     Whole::Whole(p)

@@ -9,7 +9,7 @@ use Rattle.rules.specs.declared.Row.{Row}
 use Rattle.rules.specs.declared.Record.{Record}
 use Rattle.rules.specs.declared.Drawing.{Drawing}
 use Rattle.rules.specs.Record.{mark}
-use Rattle.rules.specs.Drawing.{rowOf, withCommand, opened, Draw, openCommand}
+use Rattle.rules.specs.Drawing.{rowOf, withCommand, newCommand, Draw, openCommand}
 use Rattle.figures.specs.Carried.{carry}
 
 -- The same record
@@ -17,7 +17,7 @@ pub record-so : {q t : Record} (d : Drawing) (at : ℕ) (l : List ℕ) → q ≡
 record-so d at l e = rw e
 
 -- The command c is opened, whose row is r
-module _ (o : ℕ) (d : Drawing) (at : ℕ) (l : List ℕ) (c : Command) (r : Row) (e : c ≡ opened o (d .pen .point)) (f : r ≡ rowOf o) where
+module _ (o : ℕ) (d : Drawing) (at : ℕ) (l : List ℕ) (c : Command) (r : Row) (e : c ≡ newCommand o (d .pen .point)) (f : r ≡ rowOf o) where
   -- A record is written where data is dropped
   pub open-marked : (q : Record) → q ≡ mark (d .look) 9 0 o (d .pen .point) → r .kind ≡ 9
       → carry (Draw (withCommand c d) (q ∷ [])) (withCommand c d) at l ≡ carry (openCommand o d) d at l

@@ -16,7 +16,7 @@ use Rattle.rules.specs.declared.Row.{Row}
 use Rattle.rules.specs.declared.Role.{Role}
 use Rattle.rules.specs.declared.Role.the-variants.{MoveTo, DrawTo, DrawBy, Middle, ArcEnd, Start, Edge, Lengths, Pel, Foreground, Background, Shade, Dropped}
 use Rattle.rules.specs.Record.{origin}
-use Rattle.rules.specs.Drawing.{rowOf, withCommand, withOperand, noOperand, Outcome, Refuse, Draw, andThen, roleDue, applyBegun, complete, finish, opened, close}
+use Rattle.rules.specs.Drawing.{rowOf, withCommand, withOperand, noOperand, Outcome, NotDrawn, Draw, andThen, roleDue, applyBegun, complete, finish, newCommand, close}
 use Rattle.rules.proofs.Bools.{pick-yes, pick-no, pick-all}
 use Rattle.rules.proofs.RecordCount.{AtMost, begun-most, close-most}
 use Rattle.figures.specs.Carried.{Carried, carry}
@@ -71,12 +71,12 @@ finish-nothing Dropped filled d h = refl
 -- An outcome that draws is not answered by a refusal
 draws-so : (o : Outcome) (d : Drawing) (at : ℕ) (l : List ℕ) (x : Carried) → Draws o → x ≡ carry o d at l → x .refused ≡ false
 unfolding carry
-draws-so (Refuse r) d at l x w e = absurd w
+draws-so (NotDrawn r) d at l x w e = absurd w
 draws-so (Draw f rs) d at l x w e = ap (λ (y : Carried). y .refused) e
 
 -- No command open, no operand begun
 abbrev pub shut : Drawing → Drawing
-shut d = withOperand noOperand (withCommand (opened 0 origin) d)
+shut d = withOperand noOperand (withCommand (newCommand 0 origin) d)
 
 -- What closing does after a begun operand
 abbrev finished : Row → Drawing → Outcome

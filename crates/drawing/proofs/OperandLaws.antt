@@ -12,7 +12,7 @@ use Rattle.rules.specs.declared.Pen.{Pen}
 use Rattle.rules.specs.declared.Row.{Row}
 use Rattle.rules.specs.declared.Role.{Role}
 use Rattle.rules.specs.Operands.{begun}
-use Rattle.rules.specs.Drawing.{lengthOf, withPen, Outcome, Refuse, Draw, apply, nextOperand, roleDue, applyBegun, withByte, takeByte, dataByte}
+use Rattle.rules.specs.Drawing.{lengthOf, withPen, Outcome, NotDrawn, Draw, apply, nextOperand, roleDue, applyBegun, withByte, takeByte, dataByte}
 use Rattle.rules.proofs.Bools.{false-true, pick-yes, pick-no}
 use Rattle.figures.specs.Carried.{Carried, carry, drawingOf}
 use Rattle.figures.proofs.Carrying.{then-refused, then-drawn}
@@ -38,13 +38,13 @@ module _ (p : Pen) (d : Drawing) (at : ℕ) (l : List ℕ) (x : Carried) where
   refused-from : (o : Outcome) → x ≡ carry o (withPen p d) at l → x .refused ≡ true
       → record { refused = true; drawing = drawingOf (d .pen) (d .command) (d .look) (x .drawing .map); at = at; output = x .output } ≡ carry o d at l
   unfolding carry
-  refused-from (Refuse r) e h = rw (ap (λ (y : Carried). y .drawing .map) e, ap (λ (y : Carried). y .output) e)
+  refused-from (NotDrawn r) e h = rw (ap (λ (y : Carried). y .drawing .map) e, ap (λ (y : Carried). y .output) e)
   refused-from (Draw f rs) e h = false-true (sym (ap (λ (y : Carried). y .refused) e) ∙ h)
 
   -- What is drawn does not depend on it
   drawn-from : (o : Outcome) → x ≡ carry o (withPen p d) at l → x .refused ≡ false → x ≡ carry o d at l
   unfolding carry
-  drawn-from (Refuse r) e h = false-true (sym h ∙ ap (λ (y : Carried). y .refused) e)
+  drawn-from (NotDrawn r) e h = false-true (sym h ∙ ap (λ (y : Carried). y .refused) e)
   drawn-from (Draw f rs) e h = e
 
 -- A byte for an operand of n bytes

@@ -1,19 +1,18 @@
 -- What a drawing state in range has.
 -- Assumes nothing.
-use Prim.Native.Nat.{_≤_, _<_}
-use native.Mathlib.Nat.{le-trans}
+use Prim.Native.Nat.{ℕ, _≤_, _<_}
 use native.Mathlib.Omega.{arith}
 use mathlib.Core.Path.{_≡_, sym, _∙_}
 use mathlib.Core.Bool.{Bool, true, false, _&&_}
-use lib.Dec.{ltb, leb}
-use borrow.Author.Tests.{ltb-true, leb-true}
+use lib.Dec.{leb, eqb}
+use borrow.Author.Tests.{ltb-true, leb-true, eqb-true}
 use Rattle.rules.specs.declared.Domain.{Domain}
 use Rattle.rules.specs.declared.Drawing.{Drawing}
-use Rattle.rules.specs.declared.Pattern.{Pattern}
-use Rattle.rules.specs.declared.Pattern.the-variants.{A, D, AA, AD, ArcDD, ArcADD, PolygonD, PolygonAD, Domain as Domain·pattern, SelectColour, SetColour, Skipped}
-use Rattle.rules.specs.Drawing.{rowOf}
-use Rattle.rules.specs.Ranges.{domainFits, colourFits, commandFits, operandLength, drawingFits}
-use Rattle.rules.proofs.Bools.{and-left, and-right}
+use Rattle.rules.specs.declared.Role.{Role}
+use Rattle.rules.specs.declared.Role.the-variants.{MoveTo, DrawTo, DrawBy, Middle, ArcEnd, Start, Edge, Lengths, Pel, Foreground, Background, Shade, Dropped}
+use Rattle.rules.specs.Drawing.{rowOf, lengthOf, roleDue}
+use Rattle.rules.specs.Ranges.{domainFits, colourFits, commandFits, begunFits, drawingFits}
+use Rattle.rules.proofs.Bools.{and-left, and-right, by-test}
 
 -- Of two tests the first fails, or the second decides
 pub and-first : {r a : Bool} (b : Bool) → r ≡ a → r ≡ false → r ≡ (a && b)
@@ -23,28 +22,40 @@ pub and-second : {t r a b : Bool} → t ≡ a → t ≡ true → r ≡ b → r �
 and-second e h f = rw (sym e ∙ h) f
 
 -- No operand is longer than the longer of the two lengths
-length-most : (p : Pattern) (o : Domain) → o .single ≤ 8 → o .multi ≤ 8 → operandLength p o ≤ 8
-unfolding operandLength
-length-most A o s m = m
-length-most D o s m = m
-length-most AA o s m = m
-length-most AD o s m = m
-length-most ArcDD o s m = m
-length-most ArcADD o s m = m
-length-most PolygonD o s m = m
-length-most PolygonAD o s m = m
-length-most Domain·pattern o s m = m
-length-most SelectColour o s m = s
-length-most SetColour o s m = m
-length-most Skipped o s m = m
+length-most : (x : Role) (o : Domain) → o .single ≤ 8 → o .multi ≤ 8 → lengthOf x o ≤ 8
+unfolding lengthOf
+length-most MoveTo o s m = m
+length-most DrawTo o s m = m
+length-most DrawBy o s m = m
+length-most Middle o s m = m
+length-most ArcEnd o s m = m
+length-most Start o s m = m
+length-most Edge o s m = m
+length-most Lengths o s m = omega arith
+length-most Pel o s m = m
+length-most Foreground o s m = s
+length-most Background o s m = s
+length-most Shade o s m = m
+length-most Dropped o s m = omega arith
 
-operand-most : (p : Pattern) (o : Domain) → domainFits o ≡ true → operandLength p o ≤ 8
+operand-most : (x : Role) (o : Domain) → domainFits o ≡ true → lengthOf x o ≤ 8
 unfolding domainFits
-operand-most p o e =
+operand-most x o e =
     let s = leb 1 (o .single) && leb (o .single) 4 in
     let m = leb 1 (o .multi) && leb (o .multi) 8 in
-    let x = leb-true (o .single) 4 (and-right (leb 1 (o .single)) _ (and-left s m e)) in
-    length-most p o (omega arith) (leb-true (o .multi) 8 (and-right (leb 1 (o .multi)) _ (and-right s m e)))
+    let h = leb-true (o .single) 4 (and-right (leb 1 (o .single)) _ (and-left s m e)) in
+    length-most x o (omega arith) (leb-true (o .multi) 8 (and-right (leb 1 (o .multi)) _ (and-right s m e)))
+
+begun-most : (count n : ℕ) → n ≤ 8 → begunFits count n ≡ true → count < 8
+unfolding begunFits
+begun-most count n h e =
+    by-test (eqb count 0)
+    (λ z. let k = eqb-true count 0 z in omega arith)
+    (λ z. let k = ltb-true count n (rw z at e) in omega arith)
+
+-- The bytes of the operand that is due
+abbrev lengthDue : Drawing → ℕ
+lengthDue d = lengthOf (roleDue (rowOf (d .command .opcode)) d) (d .look .domain)
 
 -- An operand that is begun has room for a byte
 pub count-most : (d : Drawing) → drawingFits d ≡ true → d .pen .operand .count < 8
@@ -53,10 +64,10 @@ count-most d e =
     let o = domainFits (d .look .domain) in
     let c = colourFits (d .look .colour) in
     let x = commandFits (d .command) in
-    let n = operandLength (rowOf (d .command .opcode) .pattern) (d .look .domain) in
-    let t = ltb (d .pen .operand .count) n in
-    le-trans (ltb-true _ n (and-right x t (and-right c (x && t) (and-right o (c && (x && t)) e))))
-    (operand-most (rowOf (d .command .opcode) .pattern) (d .look .domain) (and-left o (c && (x && t)) e))
+    let t = begunFits (d .pen .operand .count) (lengthDue d) in
+    begun-most (d .pen .operand .count) (lengthDue d)
+    (operand-most (roleDue (rowOf (d .command .opcode)) d) (d .look .domain) (and-left o (c && (x && t)) e))
+    (and-right x t (and-right c (x && t) (and-right o (c && (x && t)) e)))
 
 -- The foreground is one of 16 addresses
 pub foreground-most : (d : Drawing) → drawingFits d ≡ true → d .look .colour .foreground ≤ 15
@@ -64,5 +75,5 @@ unfolding drawingFits colourFits
 foreground-most d e =
     let f = leb (d .look .colour .foreground) 15 in
     let b = leb (d .look .colour .background) 15 in
-    let r = commandFits (d .command) && ltb (d .pen .operand .count) (operandLength (rowOf (d .command .opcode) .pattern) (d .look .domain)) in
+    let r = commandFits (d .command) && begunFits (d .pen .operand .count) (lengthDue d) in
     leb-true _ 15 (and-left f b (and-left (f && b) r (and-right (domainFits (d .look .domain)) ((f && b) && r) e)))

@@ -16,7 +16,7 @@ use Rattle.rules.specs.declared.Role.{Role}
 use Rattle.rules.specs.declared.Role.the-variants.{MoveTo, DrawTo, DrawBy, Middle, ArcEnd, Start, Edge, Lengths, Pel, Foreground, Background, Shade, Dropped}
 use Rattle.rules.specs.declared.Refusal.the-variants.{TooManyVertices}
 use Rattle.rules.specs.Operands.{begun}
-use Rattle.rules.specs.Drawing.{rowOf, lengthOf, Outcome, Refuse, Draw, prepend, andThen}
+use Rattle.rules.specs.Drawing.{rowOf, lengthOf, Outcome, NotDrawn, Draw, prepend, andThen}
 use Rattle.rules.specs.Drawing.{drawFigure, arcMiddle, arcTo, mostVertices, edgeBy, shadeMap, shadeTo, apply, roleDue, applyBegun}
 use Rattle.rules.specs.Drawing.{withByte, takeByte, dataByte, complete, closingEdge, finish, close, openCommand, act}
 use Rattle.rules.proofs.Bools.{pick-all}
@@ -25,17 +25,17 @@ use Rattle.figures.proofs.Carrying.{Draws}
 
 -- A refusal, if it is one, is that of vertex 257
 abbrev pub OnlyVertices : Outcome → Type 0
-OnlyVertices (Refuse r) = r ≡ TooManyVertices
+OnlyVertices (NotDrawn r) = r ≡ TooManyVertices
 OnlyVertices (Draw d rs) = Unit {0}
 
 -- Of two actions, the second on the state after the first
 then-vertices : (o : Outcome) (k : Drawing → Outcome) → OnlyVertices o → ((e : Drawing) → OnlyVertices (k e)) → OnlyVertices (andThen o k)
 unfolding andThen
-then-vertices (Refuse r) k p f = p
+then-vertices (NotDrawn r) k p f = p
 then-vertices (Draw d rs) k p f = by (k d) (f d)
   where
     by : (o : Outcome) → OnlyVertices o → OnlyVertices (prepend rs o)
-    by (Refuse r) q = q
+    by (NotDrawn r) q = q
     by (Draw e qs) q = tt
 
 figure-vertices : (kind : ℕ) (filled w : Bool) (q : Point) (d : Drawing) → OnlyVertices (drawFigure kind filled w q d)
@@ -83,11 +83,11 @@ data-vertices r b d =
 -- After the begun operand closing refuses no more
 pub then-draws : (o : Outcome) (k : Drawing → Outcome) → Draws o → ((e : Drawing) → Draws (k e)) → Draws (andThen o k)
 unfolding andThen
-then-draws (Refuse r) k p f = p
+then-draws (NotDrawn r) k p f = p
 then-draws (Draw d rs) k p f = by (k d) (f d)
   where
     by : (o : Outcome) → Draws o → Draws (prepend rs o)
-    by (Refuse r) q = q
+    by (NotDrawn r) q = q
     by (Draw e qs) q = tt
 
 pub finish-draws : (x : Role) (filled : Bool) (d : Drawing) → Draws (finish x filled d)
@@ -95,7 +95,7 @@ unfolding arcTo closingEdge
 finish-draws x filled d = finish-all Draws x filled d tt tt (pick-all Draws (ltb 1 (d .command .vertices)) tt tt) tt
 
 draws-vertices : (o : Outcome) → Draws o → OnlyVertices o
-draws-vertices (Refuse r) w = absurd w
+draws-vertices (NotDrawn r) w = absurd w
 draws-vertices (Draw d rs) w = tt
 
 close-vertices : (d : Drawing) → OnlyVertices (close d)

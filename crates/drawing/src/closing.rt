@@ -3,7 +3,6 @@ use crate::operands::apply_begun;
 use crate::operands::resting;
 use crate::operands::role_due;
 use figures::Drawn;
-use figures::answers::ORIGIN;
 use figures::answers::no_record;
 use figures::arcs::arc_to;
 use figures::polygons::closing_edge;
@@ -12,6 +11,7 @@ use rules::Command;
 use rules::Due;
 use rules::Look;
 use rules::Mode;
+use rules::ORIGIN;
 use rules::Pen;
 use rules::Point;
 use rules::Role;
@@ -19,7 +19,7 @@ use rules::Row;
 ghost use mathlib.Core.Path.{_≡_};
 ghost use Prim.Native.Nat.{_+_, _≤_};
 ghost use lib.ListN.{length};
-ghost use Rattle.rules.specs.Drawing.{rowOf, withMode, complete, finish, opened, close};
+ghost use Rattle.rules.specs.Drawing.{rowOf, withMode, complete, finish, newCommand, close};
 ghost use Rattle.figures.specs.Carried.{carryOut, drawingOf, carriedOf, DrawsBy};
 
 // Applies an operand that is begun: the bytes that have not come are zero bits.
@@ -80,8 +80,8 @@ fn finish(
 }
 
 // A command just opened at a point; opcode 0 is none.
-pub fn opened(opcode: u8, point: Point) -> Command
-    ensures { λ r. ⌜ r ≡ opened opcode point ⌝ }
+pub fn new_command(opcode: u8, point: Point) -> Command
+    ensures { λ r. ⌜ r ≡ newCommand opcode point ⌝ }
 {
     Command {
         opcode,
@@ -122,7 +122,7 @@ pub fn close(
     );
     no_record(
         resting(done.pen.point),
-        opened(0, ORIGIN),
+        new_command(0, ORIGIN),
         done.look,
         done.at,
     )

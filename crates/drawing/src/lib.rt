@@ -4,7 +4,7 @@ pub mod operands;
 pub mod ranges;
 
 use crate::closing::close;
-use crate::closing::opened;
+use crate::closing::new_command;
 use crate::operands::data_byte;
 use figures::Drawn;
 use figures::answers::no_record;
@@ -25,6 +25,7 @@ ghost use lib.ListN.{length};
 ghost use Rattle.rules.specs.Record.{mark};
 ghost use Rattle.rules.specs.Drawing.{rowOf, Draw, andThen, close, openCommand, act};
 ghost use Rattle.rules.specs.Ranges.{drawingFits};
+ghost use Rattle.rules.specs.Reading.{roomForStep};
 ghost use Rattle.figures.specs.Carried.{carryOut, drawingOf, carriedOf, DrawsBy};
 
 // Opens a command where none is open: whatever the closed one left is replaced.
@@ -32,7 +33,7 @@ fn open_command(opcode: u8, pen: Pen, look: Look, out: &mut [u8], at: usize) -> 
     requires { ⌜ at + 40 ≤ length (now out) ⌝ }
     ensures { λ r. ⌜ ((c : Command) → DrawsBy (openCommand opcode) pen c look at (now (out .entry)) r (now (out .exit))) ⌝ }
 {
-    let fresh = opened(opcode, pen.point);
+    let fresh = new_command(opcode, pen.point);
     let row = row_of(opcode);
     if row.kind == 9 {
         let record = mark(look, 9, 0, opcode, pen.point);
@@ -45,7 +46,7 @@ fn open_command(opcode: u8, pen: Pen, look: Look, out: &mut [u8], at: usize) -> 
 fn close_and_mark(
     row: Row,
     kind: u8,
-    set: u8,
+    repertoire: u8,
     code: u8,
     pen: Pen,
     command: Command,
@@ -54,14 +55,14 @@ fn close_and_mark(
     out: &mut [u8],
     at: usize,
 ) -> Drawn
-    requires { ⌜ (row ≡ rowOf (command .opcode)) × (pen .operand .count ≤ 8) × (look .colour .foreground ≤ 15) × (at + 120 ≤ length (now out)) ⌝ }
-    ensures { λ r. ⌜ carriedOf r (now (map .exit)) (now (out .exit)) ≡ carryOut (λ d. andThen (close d) (λ e. Draw e (mark (e .look) kind set code (e .pen .point) ∷ []))) (drawingOf pen command look (now (map .entry))) at (now (out .entry)) ⌝ }
+    requires { ⌜ (row ≡ rowOf (command .opcode)) × (pen .operand .count ≤ 8) × (look .colour .foreground ≤ 15) × (at + roomForStep ≤ length (now out)) ⌝ }
+    ensures { λ r. ⌜ carriedOf r (now (map .exit)) (now (out .exit)) ≡ carryOut (λ d. andThen (close d) (λ e. Draw e (mark (e .look) kind repertoire code (e .pen .point) ∷ []))) (drawingOf pen command look (now (map .entry))) at (now (out .entry)) ⌝ }
 {
     let done = close(row, pen, command, look, map, out, at);
     if done.refused {
         return done;
     }
-    let record = mark(done.look, kind, set, code, done.pen.point);
+    let record = mark(done.look, kind, repertoire, code, done.pen.point);
     one_record(record, done.pen, done.command, done.look, out, done.at)
 }
 
@@ -76,7 +77,7 @@ fn close_and_open(
     out: &mut [u8],
     at: usize,
 ) -> Drawn
-    requires { ⌜ (row ≡ rowOf (command .opcode)) × (pen .operand .count ≤ 8) × (look .colour .foreground ≤ 15) × (at + 120 ≤ length (now out)) ⌝ }
+    requires { ⌜ (row ≡ rowOf (command .opcode)) × (pen .operand .count ≤ 8) × (look .colour .foreground ≤ 15) × (at + roomForStep ≤ length (now out)) ⌝ }
     ensures { λ r. ⌜ carriedOf r (now (map .exit)) (now (out .exit)) ≡ carryOut (λ d. andThen (close d) (openCommand opcode)) (drawingOf pen command look (now (map .entry))) at (now (out .entry)) ⌝ }
 {
     let done = close(row, pen, command, look, map, out, at);
@@ -96,7 +97,7 @@ pub fn act(
     out: &mut [u8],
     at: usize,
 ) -> Drawn
-    requires { ⌜ (drawingFits (drawingOf pen command look (now map)) ≡ true) × (at + 120 ≤ length (now out)) ⌝ }
+    requires { ⌜ (drawingFits (drawingOf pen command look (now map)) ≡ true) × (at + roomForStep ≤ length (now out)) ⌝ }
     ensures { λ r. ⌜ carriedOf r (now (map .exit)) (now (out .exit)) ≡ carryOut (act action) (drawingOf pen command look (now (map .entry))) at (now (out .entry)) ⌝ }
 {
     match action {
@@ -109,9 +110,9 @@ pub fn act(
             let row = row_of(command.opcode);
             close_and_mark(row, 7, 0, byte, pen, command, look, map, out, at)
         }
-        Action::Character(set, byte) => {
+        Action::Character(repertoire, byte) => {
             let row = row_of(command.opcode);
-            let number = set_number(set);
+            let number = set_number(repertoire);
             close_and_mark(row, 6, number, byte, pen, command, look, map, out, at)
         }
         Action::Opcode(opcode) => {

@@ -1,18 +1,20 @@
 // The ranges of a drawing state that is lent.
+use crate::operands::role_due;
 use rules::Colour;
 use rules::Command;
 use rules::Domain;
 use rules::Look;
+use rules::MOST_VERTICES;
 use rules::Pen;
-use tables::opcodes::operand_length;
+use tables::opcodes::length_of;
 use tables::opcodes::row_of;
 ghost use mathlib.Core.Path.{_≡_};
 ghost use mathlib.Core.Bool.{_&&_};
 ghost use mathlib.Core.List.{List};
 ghost use Prim.Native.Nat.{ℕ};
-ghost use lib.Dec.{ltb, leb};
-ghost use Rattle.rules.specs.Drawing.{rowOf};
-ghost use Rattle.rules.specs.Ranges.{domainFits, colourFits, opcodeFits, commandFits, operandLength, drawingFits};
+ghost use lib.Dec.{leb};
+ghost use Rattle.rules.specs.Drawing.{rowOf, roleOf, lengthOf};
+ghost use Rattle.rules.specs.Ranges.{domainFits, colourFits, opcodeFits, verticesFit, commandFits, begunFits, drawingFits};
 ghost use Rattle.figures.specs.Carried.{drawingOf};
 
 fn within(low: u8, n: u8, high: u8) -> bool
@@ -39,19 +41,31 @@ fn opcode_fits(opcode: u8) -> bool
     opcode == 0 || within(32, opcode, 63)
 }
 
+// The start is counted.
+fn vertices_fit(vertices: u16) -> bool
+    ensures { λ r. ⌜ r ≡ verticesFit vertices ⌝ }
+{
+    1 <= vertices && vertices <= MOST_VERTICES
+}
+
 pub fn command_fits(c: Command) -> bool
     ensures { λ r. ⌜ r ≡ commandFits c ⌝ }
 {
-    opcode_fits(c.opcode) && c.vertices <= 256
+    opcode_fits(c.opcode) && vertices_fit(c.vertices)
 }
 
-// A begun operand has fewer bytes than those of its command.
+// No operand is begun, or one with fewer bytes than the operand that is due has by its role.
 fn operand_fits(pen: Pen, command: Command, domain: Domain) -> bool
-    ensures { λ r. ⌜ r ≡ ltb (pen .operand .count) (operandLength (rowOf (command .opcode) .pattern) domain) ⌝ }
+    ensures { λ r. ⌜ r ≡ begunFits (pen .operand .count)
+        (lengthOf (roleOf (rowOf (command .opcode) .pattern) (command .due)) domain) ⌝ }
 {
+    let count = pen.operand.count;
+    if count == 0 {
+        return true;
+    }
     let row = row_of(command.opcode);
-    let pattern = row.pattern;
-    pen.operand.count < operand_length(pattern, domain)
+    let role = role_due(row, command);
+    count < length_of(role, domain)
 }
 
 pub fn drawing_fits(pen: Pen, command: Command, look: Look) -> bool

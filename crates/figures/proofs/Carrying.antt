@@ -9,7 +9,7 @@ use lib.ListN.{length, length-append}
 use Rattle.rules.specs.declared.Drawing.{Drawing}
 use Rattle.rules.specs.declared.Record.{Record}
 use Rattle.rules.specs.Record.{bytesOf, bytesOfAll}
-use Rattle.rules.specs.Drawing.{Outcome, Refuse, Draw, prepend, andThen}
+use Rattle.rules.specs.Drawing.{Outcome, NotDrawn, Draw, prepend, andThen}
 use Rattle.rules.proofs.RecordCount.{record-length, records-length, records-append, AtMost}
 use Rattle.records.specs.Bytes.{overwrite}
 use Rattle.records.proofs.Writes.{overwrite-none, overwrite-length, overwrite-next}
@@ -32,7 +32,7 @@ drawn-by d at out p q = p ∙ ap (λ (y : Outcome). carry y d at out) (sym q)
 
 -- Outcomes that are no refusals
 abbrev pub Draws : Outcome → Type 0
-Draws (Refuse r) = ⊥
+Draws (NotDrawn r) = ⊥
 Draws (Draw d rs) = Unit {0}
 
 -- Of two outcomes, the second from where the first ended
@@ -44,7 +44,7 @@ unfolding carry andThen
 carry-then e rs k d at out h p = by (k e) p
   where
     by : (o : Outcome) → Draws o → carry (prepend rs o) d at out ≡ carry o e (at + length (bytesOfAll rs)) (overwrite at (bytesOfAll rs) out)
-    by (Refuse r) q = absurd q
+    by (NotDrawn r) q = absurd q
     by (Draw f qs) q = rw (records-append, length-append, ← add-assoc at (length (bytesOfAll rs)) (length (bytesOfAll qs)), overwrite-next (bytesOfAll rs) (bytesOfAll qs) out at h)
 
 module _ (o : Outcome) (k : Drawing → Outcome) (d : Drawing) (at : ℕ) (out : List ℕ) where
@@ -54,7 +54,7 @@ module _ (o : Outcome) (k : Drawing → Outcome) (d : Drawing) (at : ℕ) (out :
   then-refused a e t = by o e
     where
       by : (x : Outcome) → a ≡ carry x d at out → a ≡ carry (andThen x k) d at out
-      by (Refuse r) f = f
+      by (NotDrawn r) f = f
       by (Draw e rs) f = let z : true ≡ false = sym t ∙ ap (λ (y : Carried). y .refused) f in cc
 
   -- Where the first draws, the second goes on from its answer
@@ -69,7 +69,7 @@ module _ (o : Outcome) (k : Drawing → Outcome) (d : Drawing) (at : ℕ) (out :
   then-drawn a b e t h p f = by o e
     where
       by : (x : Outcome) → a ≡ carry x d at out → b ≡ carry (andThen x k) d at out
-      by (Refuse r) g = let z : true ≡ false = sym (ap (λ (y : Carried). y .refused) g) ∙ t in cc
+      by (NotDrawn r) g = let z : true ≡ false = sym (ap (λ (y : Carried). y .refused) g) ∙ t in cc
       by (Draw e rs) g =
           let s = ap (λ (y : Carried). y .drawing) g in
           f
@@ -79,11 +79,11 @@ module _ (o : Outcome) (k : Drawing → Outcome) (d : Drawing) (at : ℕ) (out :
 -- The place after at most n records
 pub carry-most : (n : ℕ) (o : Outcome) (d : Drawing) (at : ℕ) (out : List ℕ) → AtMost n o → carry o d at out .at ≤ at + 40 * n
 unfolding carry
-carry-most n (Refuse r) d at out p = omega arith
+carry-most n (NotDrawn r) d at out p = omega arith
 carry-most n (Draw e rs) d at out p = omega (arith, records-length rs)
 
 -- The output keeps its length where the records fit
 pub carry-length : (n : ℕ) (o : Outcome) (d : Drawing) (at : ℕ) (out : List ℕ) → AtMost n o → at + 40 * n ≤ length out → length (carry o d at out .output) ≡ length out
 unfolding carry
-carry-length n (Refuse r) d at out p h = refl
+carry-length n (NotDrawn r) d at out p h = refl
 carry-length n (Draw e rs) d at out p h = overwrite-length (bytesOfAll rs) out at (omega (arith, records-length rs))

@@ -10,7 +10,7 @@ use Rattle.rules.specs.declared.Command.{Command}
 use Rattle.rules.specs.declared.Look.{Look}
 use Rattle.rules.specs.declared.Drawing.{Drawing}
 use Rattle.rules.specs.Record.{bytesOfAll}
-use Rattle.rules.specs.Drawing.{Outcome, Refuse, Draw}
+use Rattle.rules.specs.Drawing.{Outcome, NotDrawn, Draw}
 use Rattle.records.specs.Bytes.{overwrite}
 use Rattle.figures.specs.declared.Drawn.{Drawn}
 
@@ -22,7 +22,7 @@ pub record Carried : Type 0 where
   pub output : List ℕ
 
 unfoldable pub carry : Outcome → Drawing → ℕ → List ℕ → Carried
-carry (Refuse r) d at out = record { refused = true; drawing = d; at = at; output = out }
+carry (NotDrawn r) d at out = record { refused = true; drawing = d; at = at; output = out }
 carry (Draw e rs) d at out =
     record {
       refused = false;

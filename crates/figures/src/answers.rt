@@ -13,8 +13,6 @@ ghost use lib.ListN.{length};
 ghost use Rattle.rules.specs.Drawing.{Draw};
 ghost use Rattle.figures.specs.Carried.{movedTo, DrawsBy, ChangesBy};
 
-pub const ORIGIN: Point = Point { x: 0, y: 0 };
-
 // The drawing point elsewhere, a begun operand kept.
 pub fn moved(pen: Pen, point: Point) -> Pen
     ensures { λ r. ⌜ r ≡ movedTo point pen ⌝ }

@@ -1,6 +1,5 @@
 // SELECT COLOUR and SET COLOUR.
 use crate::Drawn;
-use crate::answers::ORIGIN;
 use crate::answers::no_record;
 use crate::answers::one_record;
 use coordinates::Hue;
@@ -11,6 +10,7 @@ use rules::Colour;
 use rules::Command;
 use rules::Look;
 use rules::Mode;
+use rules::ORIGIN;
 use rules::Pen;
 use rules::Point;
 ghost use mathlib.Core.Path.{_≡_};

@@ -1,6 +1,5 @@
 // POINT SET, POINT, LINE and RECTANGLE.
 use crate::Drawn;
-use crate::answers::ORIGIN;
 use crate::answers::moved;
 use crate::answers::no_record;
 use crate::answers::one_record;
@@ -9,6 +8,7 @@ use records::figure;
 use records::flags;
 use rules::Command;
 use rules::Look;
+use rules::ORIGIN;
 use rules::Pen;
 use rules::Point;
 use rules::Row;

@@ -1,6 +1,5 @@
 // POLYGON: its start, its edges, and the edge that closes it.
 use crate::Drawn;
-use crate::answers::ORIGIN;
 use crate::answers::moved;
 use crate::answers::no_record;
 use crate::answers::one_record;
@@ -9,6 +8,8 @@ use records::figure;
 use records::flags;
 use rules::Command;
 use rules::Look;
+use rules::MOST_VERTICES;
+use rules::ORIGIN;
 use rules::Pen;
 use rules::Point;
 ghost use mathlib.Core.List.{[]};
@@ -16,8 +17,6 @@ ghost use Prim.Native.Nat.{_+_, _≤_};
 ghost use lib.ListN.{length};
 ghost use Rattle.rules.specs.Drawing.{Draw, withPoint, withCommand, withStart, edgeBy, closingEdge};
 ghost use Rattle.figures.specs.Carried.{DrawsBy, ChangesBy};
-
-const MOST_VERTICES: u16 = 256;
 
 pub fn start_at(p: Point, pen: Pen, command: Command, look: Look, at: usize) -> Drawn
     ensures { λ r. ⌜ ChangesBy (λ d. Draw (withPoint p (withCommand (withStart p (d .command .middle) (d .command .wrapped) (d .command)) d)) []) pen command look at r ⌝ }

@@ -12,6 +12,7 @@ use Rattle.rules.specs.declared.Sets.{Sets}
 use Rattle.rules.specs.declared.Waiting.{Waiting}
 use Rattle.rules.specs.declared.Waiting.the-variants.{Nothing, Escape, Name, Body, BodyEscape}
 use Rattle.rules.specs.Coding.{React, inBody, innerOf, inBodyEscape, finalOf, escape, controls, control, classOf, reactTo, react}
+use Rattle.rules.specs.Store.{esc}
 use Rattle.macros.specs.Each.{none}
 use Rattle.macros.proofs.EachLaws.{each-on}
 use Rattle.idle.specs.Idle.{coded, Idle}
@@ -20,7 +21,7 @@ use Rattle.coding.specs.View.{codingOf}
 
 -- The reactions to ESC 4/0 where nothing is waited for, and to ESC 4/5 in a body
 module _ (s : Sets) (f st : List ℕ) where
-  escapes : react (codingOf s Nothing f) st 27 ≡ React (codingOf s Escape f) st Idle·action
+  escapes : react (codingOf s Nothing f) st esc ≡ React (codingOf s Escape f) st Idle·action
   unfolding react reactTo classOf controls control
   escapes = refl
 
@@ -29,7 +30,7 @@ module _ (s : Sets) (f st : List ℕ) where
   opens = refl
 
   module _ (d : Definition) where
-    body-escapes : react (codingOf s (Body d) f) st 27 ≡ React (codingOf s (BodyEscape d) f) st Idle·action
+    body-escapes : react (codingOf s (Body d) f) st esc ≡ React (codingOf s (BodyEscape d) f) st Idle·action
     unfolding react reactTo inBody
     body-escapes = refl
 
@@ -47,12 +48,12 @@ module _ (bytes : List ℕ) (from : ℕ) where
       (each-on bytes from 0 (coded c st) (coded c₁ st) none (ap (λ (i : ℕ). react c st (getD bytes i 0)) z ∙ ap (react c st) ea ∙ e₁))
       (ap (react c₁ st) eb ∙ e₂)
 
-  module _ (s : Sets) (f st : List ℕ) (escaped : getD bytes from 0 ≡ 27) where
+  module _ (s : Sets) (f st : List ℕ) (escaped : getD bytes from 0 ≡ esc) where
     pub opening-idle : getD bytes (from + 1) 0 ≡ 64 → Idle bytes from (coded (codingOf s Nothing f) st) 2 (coded (codingOf s Name f) st)
-    opening-idle e = two-idle _ _ _ st 27 64 escaped e (escapes s f st) (opens s f st)
+    opening-idle e = two-idle _ _ _ st esc 64 escaped e (escapes s f st) (opens s f st)
 
     pub end-idle : (d : Definition) → getD bytes (from + 1) 0 ≡ 69 → Idle bytes from (coded (codingOf s (Body d) f) st) 2 (coded (codingOf s Nothing f) st)
-    end-idle d e = two-idle _ _ _ st 27 69 escaped e (body-escapes s f st d) (ends s f st d)
+    end-idle d e = two-idle _ _ _ st esc 69 escaped e (body-escapes s f st d) (ends s f st d)
 
   -- No byte, from what the call hands back
   pub none-idle : (s : Sets) (w : Waiting) (f st : List ℕ) (r : Defined) → r ≡ record { count = 0; waiting = w }

@@ -21,12 +21,12 @@ use Rattle.rules.specs.declared.Waiting.{Waiting}
 use Rattle.rules.specs.declared.Waiting.the-variants.{Body}
 use Rattle.rules.specs.Coding.{React, keep, inBody, reactTo, react}
 use Rattle.rules.specs.Ranges.{waitingFits}
-use Rattle.rules.specs.Store.{Filling}
+use Rattle.rules.specs.Store.{Filling, esc}
 use Rattle.macros.specs.Each.{none, more}
 use Rattle.macros.specs.Runs.{StoresByte, Stores}
 use Rattle.macros.proofs.EachLaws.{each-as}
 use Rattle.idle.specs.Idle.{Coded, coded, IdleByte, Idle, idleAction, idleEffect}
-use Rattle.coding.specs.View.{codingOf, effectOn, setsAfter, reactionOf, KeptBy, Kept}
+use Rattle.coding.specs.View.{codingOf, effectOn, setsAfter, reactionOf, AsLentBy, AsLent}
 use Rattle.coding.specs.declared.reactions.Effect.{Effect}
 use Rattle.coding.specs.declared.reactions.Effect.the-variants.{Refuses, Calls, Acts, Uses, Designates}
 use Rattle.coding.specs.declared.reactions.Reacted.{Reacted}
@@ -58,7 +58,7 @@ module _ (s : Sets) where
 
   body-idle : (b : ℕ) (f g : Filling) → StoresByte b f g → IdleByte b (within f) (within g)
   unfolding react reactTo inBody keep
-  body-idle b f g h = rw (le-ltb 127 b (h .0 .0), ne-eqb b 27 (h .0 .1), h .1)
+  body-idle b f g h = rw (le-ltb 127 b (h .0 .0), ne-eqb b esc (h .0 .1), h .1)
 
   pub stores-idle : (bytes : List ℕ) (from n : ℕ) (f g : Filling) → Stores bytes from f n g → Idle bytes from (within f) n (within g)
   stores-idle = each-as within body-idle
@@ -101,7 +101,7 @@ module _ (s : Sets) (w : Waiting) (f st : List ℕ) (b : ℕ) (r : Reacted) (f�
   pub idle-reacts : idleEffect (r .effect) ≡ true → react (codingOf s w f) st b ≡ React after st₁ Idle·action
   idle-reacts h = sym e ∙ idle-effect (r .effect) after st₁ h
 
-  pub busy-keeps : idleEffect (r .effect) ≡ false → (Kept r f f₁) × (Kept r st st₁) → (f₁ ≡ f) × (st₁ ≡ st)
+  pub busy-keeps : idleEffect (r .effect) ≡ false → (AsLent r f f₁) × (AsLent r st st₁) → (f₁ ≡ f) × (st₁ ≡ st)
   unfolding idleEffect idleAction
   busy-keeps h k = by (r .effect) refl h k
     where
@@ -109,7 +109,7 @@ module _ (s : Sets) (w : Waiting) (f st : List ℕ) (b : ℕ) (r : Reacted) (f�
       acts a n (inl p) = p
       acts a n (inr q) = true-false (rw q at n)
 
-      by : (x : Effect) → r .effect ≡ x → idleEffect x ≡ false → (KeptBy x f f₁) × (KeptBy x st st₁) → (f₁ ≡ f) × (st₁ ≡ st)
+      by : (x : Effect) → r .effect ≡ x → idleEffect x ≡ false → (AsLentBy x f f₁) × (AsLentBy x st st₁) → (f₁ ≡ f) × (st₁ ≡ st)
       by (Refuses z) q n p = p
       by (Calls m) q n p = p
       by (Acts a) q n p = acts a n (act-kept (codingOf s w f) st b r f₁ st₁ e a q)

@@ -1,6 +1,6 @@
 // Runs of a definition's bytes: ESC 4/0 that opens it, its body, ESC 4/5 that ends it.
-use macros::cells::ESC;
 use rules::Definition;
+use rules::ESC;
 use rules::Sets;
 use rules::Waiting;
 use storing::filling::fill;
@@ -10,6 +10,7 @@ ghost use mathlib.Core.List.{List};
 ghost use mathlib.Core.Path.{_≡_};
 ghost use Prim.Native.Nat.{ℕ, _+_, _≤_};
 ghost use Rattle.rules.specs.Ranges.{waitingFits};
+ghost use Rattle.rules.specs.Store.{esc};
 ghost use Rattle.macros.specs.Lent.{Sized, IsName};
 ghost use Rattle.idle.specs.Idle.{Idle, coded};
 ghost use Rattle.coding.specs.View.{codingOf};
@@ -34,7 +35,7 @@ fn none_read(waiting: Waiting) -> Defined
 // Whether the next two bytes are ESC and the given one.
 fn escape_then(bytes: &[u8], from: usize, to: usize, last: u8) -> bool
     requires { ⌜ (from ≤ to) × (to ≤ length (now bytes)) ⌝ }
-    ensures { λ r. ⌜ (r ≡ true → (from + 2 ≤ to) × (getD (now (bytes .entry)) from 0 ≡ 27) × (getD (now (bytes .entry)) (from + 1) 0 ≡ last)) ⌝ }
+    ensures { λ r. ⌜ (r ≡ true → (from + 2 ≤ to) × (getD (now (bytes .entry)) from 0 ≡ esc) × (getD (now (bytes .entry)) (from + 1) 0 ≡ last)) ⌝ }
 {
     if to - from < 2 {
         return false;

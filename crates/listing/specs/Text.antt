@@ -18,8 +18,8 @@ abbrev pub decimal : ℕ → List ℕ
 decimal n = decimalTo 20 n
 
 -- A 32-bit pattern in two's complement
-unfoldable pub signed : ℕ → List ℕ
-signed n = pick (ltb n 2147483648) (decimal n) (45 ∷ decimal (4294967296 - n))
+unfoldable pub signedDecimal : ℕ → List ℕ
+signedDecimal n = pick (ltb n 2147483648) (decimal n) (45 ∷ decimal (4294967296 - n))
 
 -- The pattern whose bytes stand at a place, low byte first
 unfoldable pub wordAt : List ℕ → ℕ → ℕ
@@ -28,7 +28,7 @@ wordAt bs p =
 
 -- The sixteen fields of a record: eight bytes, then eight signed numbers
 unfoldable pub fieldOf : List ℕ → ℕ → List ℕ
-fieldOf bs i = pick (ltb i 8) (decimal (getD bs i 0)) (signed (wordAt bs (4 * i - 24)))
+fieldOf bs i = pick (ltb i 8) (decimal (getD bs i 0)) (signedDecimal (wordAt bs (4 * i - 24)))
 
 -- A blank, and a line end after the last field
 unfoldable pub separator : ℕ → ℕ

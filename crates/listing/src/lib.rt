@@ -4,7 +4,7 @@ ghost use mathlib.Core.Path.{_≡_};
 ghost use Prim.Native.Nat.{_+_, _*_, _/_, _≤_, _<_, min};
 ghost use lib.ListN.{length};
 ghost use Rattle.io.specs.Counts.{Counts};
-ghost use Rattle.listing.specs.Text.{decimal, signed, wordAt, fieldOf, separator, line, linesTo, closing, Put};
+ghost use Rattle.listing.specs.Text.{decimal, signedDecimal, wordAt, fieldOf, separator, line, linesTo, closing, Put};
 
 const RECORD_SIZE: usize = 40;
 
@@ -30,7 +30,7 @@ pub fn put_number(text: &mut [u8], at: usize, n: u32) -> usize
 
 fn put_signed(text: &mut [u8], at: usize, pattern: u32) -> usize
     requires { ⌜ at + 11 ≤ length (now text) ⌝ }
-    ensures { λ r. ⌜ Put at (signed pattern) (now (text .entry)) (now (text .exit)) r ⌝ }
+    ensures { λ r. ⌜ Put at (signedDecimal pattern) (now (text .entry)) (now (text .exit)) r ⌝ }
     ensures { λ r. ⌜ r ≤ at + 11 ⌝ }
 {
     if pattern < 0x8000_0000 {

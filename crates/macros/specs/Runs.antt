@@ -3,12 +3,12 @@ use Prim.Native.Nat.{ℕ, zero, suc, _+_, _≤_}
 use mathlib.Core.List.{List}
 use mathlib.Core.Path.{_≡_}
 use lib.ListN.{getD}
-use Rattle.rules.specs.Store.{Filling, Stored, setBodyByte, storeByte}
+use Rattle.rules.specs.Store.{Filling, Stored, setBodyByte, storeByte, esc}
 use Rattle.macros.specs.Each.{Each}
 
 -- A byte that a definition stores as it is: neither ESC nor over 127
 abbrev pub Plain : ℕ → Type 0
-Plain b = (b ≤ 127) × (b ≡ 27 → ⊥)
+Plain b = (b ≤ 127) × (b ≡ esc → ⊥)
 
 -- So many bytes from a place on, set as body bytes of a cell one after the other; its count stays
 pub data Laid (bytes : List ℕ) (from cell place : ℕ) (st : List ℕ) : ℕ → List ℕ → Type 0 where

@@ -1,4 +1,5 @@
 // One cell of the store. Only this file knows where the parts of a cell lie.
+use rules::ESC;
 ghost use mathlib.Core.Path.{_≡_};
 ghost use Prim.Native.Nat.{_+_, _*_, _-_, _<_, _≤_};
 ghost use lib.ListN.{length};
@@ -10,8 +11,6 @@ ghost use Rattle.macros.specs.Runs.{Laid};
 const CELL_SIZE: usize = 32;
 
 pub const MOST_BYTES: u8 = 30;
-
-pub const ESC: u8 = 27;
 
 // The next cell, 0 at the end of a chain. Of cell 0: the front of the free chain.
 pub fn next_of(store: &[u8], cell: u8) -> u8

@@ -18,7 +18,7 @@ use Rattle.rules.specs.declared.Answer.the-variants.{Done, Full, Refused}
 use Rattle.rules.specs.Record.{bytesOfAll}
 use Rattle.rules.specs.Bodies.{bytesLeft, mostDepth}
 use Rattle.rules.specs.Coding.{unfinished}
-use Rattle.rules.specs.Drawing.{Outcome, Refuse, Draw, act, isOpen}
+use Rattle.rules.specs.Drawing.{Outcome, NotDrawn, Draw, act, isOpen}
 use Rattle.rules.specs.Step.{State}
 use Rattle.rules.specs.Ranges.{placesFit, bodiesFit}
 use Rattle.rules.specs.Reading.{Reading, roomForStep, rests, halts, tests}
@@ -40,7 +40,7 @@ pub stopped-so : (o : Outcome) (s : Session) (st out left m : List ℕ) (x : Dra
     → r ≡ record { answer = Refused TooManyVertices; written = 0; session = sessionWith (Stopped TooManyVertices) (s .drawing) s }
     → endingOf r st left ≡ handed (ended o (stateLent s st)) out
 unfolding carry ended
-stopped-so (Refuse q) s st out left m x r v e f h =
+stopped-so (NotDrawn q) s st out left m x r v e f h =
     ap (λ (z : End). endingOf z st left) h
     ∙ ap (λ (z : Carried). handed (halts TooManyVertices (stateLent s st)) (z .output)) e
     ∙ ap (λ (z : Refusal). handed (halts z (stateLent s st)) out) (sym v)
@@ -51,7 +51,7 @@ pub ended-so : (o : Outcome) (s : Session) (st out left m : List ℕ) (x : Drawn
     → z ≡ sessionWith Ended (drawingOf (x .pen) (x .command) (x .look) m) s
     → endingOf (record { answer = Done; written = x .at; session = z }) st left ≡ handed (ended o (stateLent s st)) out
 unfolding carry ended
-ended-so (Refuse q) s st out left m x z e f h = true-false (sym (ap (λ (y : Carried). y .refused) e) ∙ f)
+ended-so (NotDrawn q) s st out left m x z e f h = true-false (sym (ap (λ (y : Carried). y .refused) e) ∙ f)
 ended-so (Draw d rs) s st out left m x z e f h =
     ap (λ (y : Session). endingOf (record { answer = Done; written = x .at; session = y }) st left) h
     ∙ ap (λ (y : Carried). endingOf (record { answer = Done; written = y .at; session = sessionWith Ended (y .drawing) s }) st (y .output)) e

@@ -1,14 +1,14 @@
 // Ending a page.
 use bodies::bytes_left;
 use drawing::act;
-use drawing::closing::opened;
-use figures::answers::ORIGIN;
-use records::ROOM_FOR_STEP;
+use drawing::closing::new_command;
 use rules::Action;
 use rules::Answer;
 use rules::Drawing;
+use rules::ORIGIN;
 use rules::Operand;
 use rules::Pen;
+use rules::ROOM_FOR_STEP;
 use rules::Refusal;
 use rules::Session;
 use rules::Status;
@@ -79,7 +79,7 @@ fn close_none(session: Session) -> Ended
     let point = drawing.pen.point;
     let look = drawing.look;
     let map = drawing.map;
-    let command = opened(0, ORIGIN);
+    let command = new_command(0, ORIGIN);
     let operand = Operand {
         bytes: [0u8; 8],
         count: 0,

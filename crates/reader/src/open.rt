@@ -11,23 +11,22 @@ use rules::Due;
 use rules::Element;
 use rules::Look;
 use rules::Mode;
+use rules::ORIGIN;
 use rules::Operand;
 use rules::Pen;
 use rules::Point;
 use rules::Refusal;
 use rules::Repertoire;
+use rules::STORE_SIZE;
 use rules::Session;
 use rules::Set;
 use rules::Sets;
 use rules::Status;
 use rules::Waiting;
-use verdict::STORE_SIZE;
 ghost use mathlib.Core.Path.{_≡_};
 ghost use Rattle.rules.specs.Drawing.{freshDrawing};
 ghost use Rattle.rules.specs.Calls.{freshSession};
 ghost use Rattle.reader.specs.Promises.{Opens};
-
-const ORIGIN: Point = Point { x: 0, y: 0 };
 
 pub struct Opened {
     pub answer: Answer,

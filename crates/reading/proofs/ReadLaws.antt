@@ -30,7 +30,7 @@ use Rattle.turns.specs.declared.step.Progress.{Progress}
 use Rattle.turns.specs.declared.step.Turned.{Turned}
 use Rattle.handing.specs.declared.Fed.{Fed}
 use Rattle.turns.specs.Turn.{turn, Left, leaves}
-use Rattle.turns.specs.View.{stateAt, answered, sessionAfter, leftOf, startOf, atDepth, writtenTo, DueBy, Due, RoomBy, readOnIf}
+use Rattle.turns.specs.View.{stateAt, answered, sessionAfter, leftOf, startOf, atDepth, writtenTo, DrawDueBy, DrawDue, RoomBy, readOnIf}
 use Rattle.handing.specs.Handing.{stateLent, handedOf, fedOf}
 use Rattle.runs.specs.Strokes.{penAfter}
 use Rattle.advance.specs.Walk.{placeAfter, ranOn}
@@ -46,8 +46,8 @@ ended-state Full budget p cells places firsts d st = refl
 ended-state (Refused r) budget p cells places firsts d st = refl
 
 -- What is asked of drawing
-pub drawn-due : (r : Turned) (p : Progress) (a : Action) → r .course ≡ Draws a → Due (atDepth (r .progress .depth) p) r
-    → DueBy (Draws a) (atDepth (r .progress .depth) p) (r .progress)
+pub drawn-due : (r : Turned) (p : Progress) (a : Action) → r .course ≡ Draws a → DrawDue (atDepth (r .progress .depth) p) r
+    → DrawDueBy (Draws a) (atDepth (r .progress .depth) p) (r .progress)
 drawn-due r p a g u = rw g at u
 
 pub drawn-room : (r : Turned) (n : ℕ) (a : Action) → r .course ≡ Draws a → RoomBy (r .course) n → roomForStep ≤ n
@@ -122,9 +122,9 @@ module _ (s : Session) (st₀ piece out₀ : List ℕ) (valid : Valid (stateLent
           (next (record { course = Ends a; state = answered a (stateAt (s .budget) (r .progress) cells₁ places₁ firsts₁ d st₁); consumed = r .progress .at; written = r .progress .written; output = out }) (rw g)) x f
 
       -- The turn's action drawn
-      module _ (a : Action) (g : r .course ≡ Draws a) (u : Due (atDepth (r .progress .depth) p) r) (m : Drawn) (map₁ out₁ : List ℕ) (f : carriedOf m map₁ out₁ ≡ carry (act a d) d (p .written) out)
+      module _ (a : Action) (g : r .course ≡ Draws a) (u : DrawDue (atDepth (r .progress .depth) p) r) (m : Drawn) (map₁ out₁ : List ℕ) (f : carriedOf m map₁ out₁ ≡ carry (act a d) d (p .written) out)
           (cells₂ places₂ : List ℕ) (h : bodiesOf (r .progress .depth) cells₂ places₂ ≡ readOnIf (m .refused) (r .progress .depth) (r .cursor) (bodiesOf (r .progress .depth) cells₁ places₁)) where
-        due : DueBy (Draws a) (atDepth (r .progress .depth) p) (r .progress)
+        due : DrawDueBy (Draws a) (atDepth (r .progress .depth) p) (r .progress)
         due = drawn-due r p a g u
 
         pub loop-draws : m .refused ≡ false → (q : Progress) → q ≡ writtenTo (m .at) (r .progress)

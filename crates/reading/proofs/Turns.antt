@@ -10,7 +10,7 @@ use borrow.Author.Tests.{ltb-false}
 use Rattle.rules.specs.declared.Record.{Record}
 use Rattle.rules.specs.Record.{bytesOfAll}
 use Rattle.rules.specs.Step.{State, removeSpent, Source, FromBody, FromPiece, Sought, NothingLeft, Spoilt, Found, seek, Move, Stops, Goes, interpret}
-use Rattle.rules.specs.Reading.{Room, roomForStep, rests, consumedBy, after, reading}
+use Rattle.rules.specs.Reading.{Room, roomForStep, rests, consumedBy, stepThen, reading}
 use Rattle.rules.proofs.RecordCount.{records-length}
 use Rattle.rules.proofs.Steps.{Valid, Later, later-then, remove-later, step-later, step-most, seek-rest}
 use Rattle.rules.proofs.Readings.{budget, spoilt, refused, reads-done, reads-full, reads-halt, reads-step}
@@ -24,7 +24,7 @@ pub record Advance (room n : ℕ) (w : State) (bs : List ℕ) (s : Source) (u : 
   pub few : length (bytesOfAll rs) ≤ roomForStep
   pub some : consumedBy s 0 ≤ length bs
   pub later : Later 1 w u
-  pub same : reading (Room room) n w bs ≡ after s (bytesOfAll rs) (reading (Room (room - length (bytesOfAll rs))) rest u (drop (consumedBy s 0) bs))
+  pub same : reading (Room room) n w bs ≡ stepThen s (bytesOfAll rs) (reading (Room (room - length (bytesOfAll rs))) rest u (drop (consumedBy s 0) bs))
 
 abbrev pub Follows : ℕ → ℕ → State → List ℕ → Turn → Type 0
 Follows room n w bs (Ends a v) = reading (Room room) n w bs ≡ rests a v
@@ -54,7 +54,7 @@ module _ (room n : ℕ) (w : State) (bs : List ℕ) (valid : Valid w) where
         later = later-then a (step-later (removeSpent w) bs (a .valid valid) q e);
         same =
             reads-step (Room room) n w bs f q e
-            ∙ ap (λ (z : List ℕ). after s (bytesOfAll rs) (reading (Room (room - length (bytesOfAll rs))) n u z)) (sym (t .0 0));
+            ∙ ap (λ (z : List ℕ). stepThen s (bytesOfAll rs) (reading (Room (room - length (bytesOfAll rs))) n u z)) (sym (t .0 0));
       }
 
 pub turn-follows : (room n : ℕ) (w : State) (bs : List ℕ) → Valid w → Follows room n w bs (turn room n w bs)

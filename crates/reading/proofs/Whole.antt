@@ -11,7 +11,7 @@ use Rattle.rules.specs.declared.Answer.{Answer}
 use Rattle.rules.specs.declared.Record.{Record}
 use Rattle.rules.specs.Record.{bytesOfAll}
 use Rattle.rules.specs.Step.{State, Source, FromBody, FromPiece}
-use Rattle.rules.specs.Reading.{Reading, Room, rests, consumedBy, after, reading}
+use Rattle.rules.specs.Reading.{Reading, Room, rests, consumedBy, stepThen, reading}
 use Rattle.rules.specs.Calls.{handed}
 use Rattle.rules.proofs.Steps.{Valid}
 use Rattle.records.specs.Bytes.{overwrite}
@@ -26,7 +26,7 @@ use Rattle.reading.proofs.Turns.{Advance, Follows, turn-follows}
 abbrev ahead : ℕ → List ℕ → Reading → Reading
 ahead n rs x = record { answer = x .answer; state = x .state; consumed = n + x .consumed; records = rs ++ x .records }
 
-ahead-after : (s : Source) (n : ℕ) (rs bs : List ℕ) (x : Reading) → ahead n rs (after s bs x) ≡ ahead (consumedBy s n) (rs ++ bs) x
+ahead-after : (s : Source) (n : ℕ) (rs bs : List ℕ) (x : Reading) → ahead n rs (stepThen s bs x) ≡ ahead (consumedBy s n) (rs ++ bs) x
 ahead-after FromBody n rs bs x = rw append-assoc
 ahead-after FromPiece n rs bs x = rw (append-assoc, add-suc, suc-add)
 

@@ -9,14 +9,10 @@ ghost use Rattle.records.specs.Fields.{inkOf};
 use rules::Colour;
 use rules::Look;
 use rules::Mode;
+use rules::ORIGIN;
 use rules::Point;
 use rules::Record;
 use rules::Repertoire;
-
-const ORIGIN: Point = Point { x: 0, y: 0 };
-
-// The room of a step, which writes at most three records.
-pub const ROOM_FOR_STEP: usize = 120;
 
 fn put_word(out: &mut [u8], at: usize, n: u32)
     requires { ⌜ at + 4 ≤ length (now out) ⌝ }
@@ -112,10 +108,10 @@ pub fn mode_number(mode: Mode) -> u8
     }
 }
 
-pub fn set_number(set: Repertoire) -> u8
-    ensures { λ r. ⌜ r ≡ setNumber set ⌝ }
+pub fn set_number(repertoire: Repertoire) -> u8
+    ensures { λ r. ⌜ r ≡ setNumber repertoire ⌝ }
 {
-    match set {
+    match repertoire {
         Repertoire::Primary => 0,
         Repertoire::Supplementary => 1,
         Repertoire::Mosaic => 2,
@@ -162,13 +158,13 @@ pub fn record_of(
     look: Look,
     kind: u8,
     flags: u8,
-    set: u8,
+    repertoire: u8,
     code: u8,
     p0: Point,
     p1: Point,
     p2: Point,
 ) -> Record
-    ensures { λ r. ⌜ r ≡ recordOf look kind flags set code p0 p1 p2 ⌝ }
+    ensures { λ r. ⌜ r ≡ recordOf look kind flags repertoire code p0 p1 p2 ⌝ }
 {
     let colour = look.colour;
     let ink = ink_of(colour);
@@ -181,7 +177,7 @@ pub fn record_of(
         colour0: ink.colour0,
         colour1: ink.colour1,
         colour2: ink.colour2,
-        set,
+        set: repertoire,
         code,
         p0,
         p1,
@@ -191,20 +187,20 @@ pub fn record_of(
 }
 
 // The head of such a record.
-pub fn head_of(look: Look, kind: u8, flags: u8, set: u8, code: u8) -> Head
-    ensures { λ r. ⌜ ((p q s : Point) → headBytes r ≡ headOf (recordOf look kind flags set code p q s)) ⌝ }
+pub fn head_of(look: Look, kind: u8, flags: u8, repertoire: u8, code: u8) -> Head
+    ensures { λ r. ⌜ ((p q s : Point) → headBytes r ≡ headOf (recordOf look kind flags repertoire code p q s)) ⌝ }
 {
     let colour = look.colour;
     let ink = ink_of(colour);
     let first = join_bytes(kind, flags, ink.mode, ink.colour0);
-    let second = join_bytes(ink.colour1, ink.colour2, set, code);
+    let second = join_bytes(ink.colour1, ink.colour2, repertoire, code);
     Head { first, second }
 }
 
-pub fn mark(look: Look, kind: u8, set: u8, code: u8, p: Point) -> Record
-    ensures { λ r. ⌜ r ≡ mark look kind set code p ⌝ }
+pub fn mark(look: Look, kind: u8, repertoire: u8, code: u8, p: Point) -> Record
+    ensures { λ r. ⌜ r ≡ mark look kind repertoire code p ⌝ }
 {
-    record_of(look, kind, 0, set, code, p, ORIGIN, ORIGIN)
+    record_of(look, kind, 0, repertoire, code, p, ORIGIN, ORIGIN)
 }
 
 pub fn figure(look: Look, kind: u8, flags: u8, p0: Point, p1: Point, p2: Point) -> Record

@@ -3,6 +3,7 @@ pub mod Bools
 pub mod Spans
 pub mod Lists
 pub mod Tables
+pub mod OpcodeRows
 pub mod WorkedPages
 pub mod WorkedCalls
 pub mod DrawingRanges

@@ -18,6 +18,7 @@ use Rattle.rules.specs.declared.Set.the-variants.{Pdi}
 use Rattle.rules.specs.Operands.{begun}
 use Rattle.rules.specs.Drawing.{rowOf, lengthOf, withOperand, Outcome, Draw, andThen, apply, nextOperand, roleDue, applyBegun, takeByte, dataByte, act}
 use Rattle.rules.proofs.Bools.{pick-yes, pick-no}
+use Rattle.rules.specs.Reading.{roomForStep}
 use Rattle.coordinates.specs.Data.{allData}
 use Rattle.coordinates.proofs.WholeLaws.{data-range, all-at}
 use Rattle.figures.specs.Carried.{Carried, carry}
@@ -59,7 +60,7 @@ each-data bytes place l h all k g =
     rw here at (data-range (getD bs k 0) (all-at bs k (omega arith) all))
 
 -- An operand of the bytes after a run's first n
-module _ (bytes : List ℕ) (from n : ℕ) (x : Carried) (d : Drawing) (at : ℕ) (out : List ℕ) (room : at + 120 ≤ length out) where
+module _ (bytes : List ℕ) (from n : ℕ) (x : Carried) (d : Drawing) (at : ℕ) (out : List ℕ) (room : at + roomForStep ≤ length out) where
   -- The first k of them have joined
   abbrev stage : ℕ → Drawing
   stage k = withOperand (record { bytes = joined bytes (from + n) (d .pen .operand .bytes) k; count = k }) d

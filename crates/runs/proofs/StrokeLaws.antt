@@ -21,6 +21,7 @@ use Rattle.rules.specs.declared.Set.the-variants.{Pdi}
 use Rattle.rules.specs.Operands.{point}
 use Rattle.rules.specs.Record.{words, bytesOf, flags, origin, recordOf, figure}
 use Rattle.rules.specs.Drawing.{row, rows, rowOf, roleOf, dueAfter, lengthOf, withPoint, withOperand, withDue, Draw, drawFigure, apply, nextOperand}
+use Rattle.rules.specs.Reading.{roomForStep}
 use Rattle.records.specs.declared.Head.{Head}
 use Rattle.records.specs.Bytes.{overwrite, headBytes}
 use Rattle.records.proofs.Heads.{record-bytes}
@@ -29,7 +30,7 @@ use Rattle.coordinates.proofs.WholeLaws.{is-three}
 use Rattle.figures.specs.Carried.{Carried, carry, drawingOf}
 use Rattle.figures.proofs.Carrying.{carry-none, carry-one}
 use Rattle.runs.specs.Run.{standing, Run, none}
-use Rattle.runs.specs.Strokes.{penAfter, Ready, Moves, Lines}
+use Rattle.runs.specs.Strokes.{penAfter, StrokeDue, Moves, Lines}
 use Rattle.runs.proofs.RunLaws.{each-data, whole-operand}
 
 -- The commands, by their rows
@@ -42,7 +43,7 @@ unfolding rowOf rows
 line-row e = rw e
 
 -- A whole operand keeps the command ready for the next
-ready-after : (n kind : ℕ) (p : Pen) (c : Command) (l : Look) (q : Point) → Ready kind p c l → Ready kind (penAfter n p q) c l
+ready-after : (n kind : ℕ) (p : Pen) (c : Command) (l : Look) (q : Point) → StrokeDue kind p c l → StrokeDue kind (penAfter n p q) c l
 ready-after zero kind p c l q r = r
 ready-after (suc n) kind p c l q r =
     record { drawn = r .drawn; due = r .due; multi = r .multi; plane = r .plane; fresh = refl; eight = refl }
@@ -55,7 +56,7 @@ module _ (bytes : List ℕ) (from n : ℕ) (q : Point) (h : from + n + 3 ≤ len
 
   -- By the figure that the command draws
   stroke : (kind : ℕ) (x : Carried) (p₀ p : Pen) (c : Command) (l : Look) (m : List ℕ) (at : ℕ) (out : List ℕ) (rs : List Record)
-      → Ready kind p c l → at + 120 ≤ length out
+      → StrokeDue kind p c l → at + roomForStep ≤ length out
       → ((o : Operand) → drawFigure kind false false q (withOperand o (drawingOf p c l m)) ≡ Draw (withOperand o (withPoint q (drawingOf p c l m))) rs)
       → Run Pdi bytes from x n (standing p c l m at out)
       → Run Pdi bytes from x (n + 3) (carry (Draw (drawingOf (penAfter (n + 3) p₀ q) c l m) rs) (drawingOf p c l m) at out)
@@ -86,7 +87,7 @@ module _ (bytes : List ℕ) (from n : ℕ) (q : Point) (h : from + n + 3 ≤ len
       subst (λ (y : Carried). Run Pdi bytes from x (n + 3) y) (carry-none (drawingOf (penAfter (n + 3) p q) c l m) (drawingOf p′ c l m) at out) run
 
   lines-more : (head : Head) (pel p₀ : Point) (at₀ : ℕ) (out₀ : List ℕ) (old : Point) (at : ℕ) (out out′ : List ℕ)
-      → at + 120 ≤ length out
+      → at + roomForStep ≤ length out
       → out′ ≡ overwrite at (headBytes head ++ words old ++ words q ++ words origin ++ words pel) out
       → Lines bytes from head pel p₀ at₀ out₀ n old at out → Lines bytes from head pel p₀ at₀ out₀ (n + 3) q (at + 40) out′
   unfolding drawFigure figure recordOf flags
@@ -124,7 +125,7 @@ moves-on bytes from i l q h all is old moves =
 pub lines-on : (bytes : List ℕ) (from n : ℕ) (q : Point) → from + 3 * n + 3 ≤ length bytes
     → allData (take 3 (drop (from + 3 * n) bytes)) ≡ true → q ≡ point false (take 3 (drop (from + 3 * n) bytes))
     → (head : Head) (pel p₀ : Point) (at : ℕ) (out₀ : List ℕ) (old : Point) (out out′ : List ℕ)
-    → at + 40 * n + 120 ≤ length out
+    → at + 40 * n + roomForStep ≤ length out
     → out′ ≡ overwrite (at + 40 * n) (headBytes head ++ words old ++ words q ++ words origin ++ words pel) out
     → Lines bytes from head pel p₀ at out₀ (3 * n) old (at + 40 * n) out
     → Lines bytes from head pel p₀ at out₀ (3 * (n + 1)) q (at + 40 * (n + 1)) out′
@@ -147,7 +148,7 @@ lines-none bytes from head pel q at out =
 -- What is tested of a pen, a command and a look
 pub ready-told : {kind : ℕ} (p : Pen) (c : Command) (l : Look) → length (p .operand .bytes) ≡ 8 → p .operand .count ≡ 0 → c .due ≡ First
     → (t : Bool) → t ≡ (eqb (l .domain .multi) 3 && not (l .domain .three)) → t ≡ true
-    → rowOf (c .opcode) ≡ row A kind false → Ready kind p c l
+    → rowOf (c .opcode) ≡ row A kind false → StrokeDue kind p c l
 ready-told p c l eight fresh due t e f drawn =
     let g = is-three (l .domain .multi) (l .domain .three) t e f in
     record { drawn = drawn; due = due; multi = g .0; plane = g .1; fresh = fresh; eight = eight }

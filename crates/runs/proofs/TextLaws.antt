@@ -20,7 +20,7 @@ use Rattle.rules.specs.declared.Set.{Set}
 use Rattle.rules.specs.declared.Set.the-variants.{Characters}
 use Rattle.rules.specs.Record.{words, bytesOf, setNumber, origin, recordOf, mark}
 use Rattle.rules.specs.Coding.{React, character, graphic}
-use Rattle.rules.specs.Drawing.{Outcome, Draw, andThen, noOperand, opened, act, isOpen}
+use Rattle.rules.specs.Drawing.{Outcome, Draw, andThen, noOperand, newCommand, act, isOpen}
 use Rattle.rules.specs.Reading.{roomForStep}
 use Rattle.rules.proofs.RecordCount.{closed, closed-close}
 use Rattle.records.specs.declared.Head.{Head}
@@ -122,7 +122,7 @@ pub ran-none : {s : Set} {bytes : List ℕ} {from : ℕ} {y : Carried} (n : ℕ)
 ran-none n p c l m at out e r = rw e (rw (e, add-zero at) at r)
 
 pub ran-some : {s : Set} {bytes : List ℕ} {from : ℕ} {y : Carried} (n : ℕ) (p : Pen) (c : Command) (l : Look) (m : List ℕ) (at : ℕ) (out : List ℕ)
-    {p′ : Pen} {c′ : Command} → (n ≡ 0 → ⊥) → p′ ≡ record { point = p .point; operand = noOperand } → c′ ≡ opened 0 origin
+    {p′ : Pen} {c′ : Command} → (n ≡ 0 → ⊥) → p′ ≡ record { point = p .point; operand = noOperand } → c′ ≡ newCommand 0 origin
     → Run s bytes from y n (typed n p c l m at out) → Run s bytes from y n (standing p′ c′ l m (at + 40 * n) out)
 ran-some zero p c l m at out h e f r = absurd (h refl)
 ran-some (suc n) p c l m at out h e f r = rw (e, f) r

@@ -24,7 +24,7 @@ penAfter zero p q = p
 penAfter (suc n) p q = record { point = q; operand = noOperand }
 
 -- The first operand is due of such a command, with figures of a kind that are not filled; none of it is begun
-pub record Ready (kind : ℕ) (p : Pen) (c : Command) (l : Look) : Type 0 where
+pub record StrokeDue (kind : ℕ) (p : Pen) (c : Command) (l : Look) : Type 0 where
   pub drawn : rowOf (c .opcode) ≡ row A kind false
   pub due : c .due ≡ First
   pub multi : l .domain .multi ≡ 3
@@ -36,7 +36,7 @@ pub record Ready (kind : ℕ) (p : Pen) (c : Command) (l : Look) : Type 0 where
 abbrev pub Moves : List ℕ → ℕ → ℕ → Point → Type 0
 Moves bytes from n q =
     (p : Pen) (c : Command) (l : Look) (m : List ℕ) (at : ℕ) (out : List ℕ)
-    → Ready 0 p c l
+    → StrokeDue 0 p c l
     → at + roomForStep ≤ length out
     → Run Pdi bytes from (standing p c l m at out) n (standing (penAfter n p q) c l m at out)
 
@@ -44,7 +44,7 @@ Moves bytes from n q =
 abbrev pub Lines : List ℕ → ℕ → Head → Point → Point → ℕ → List ℕ → ℕ → Point → ℕ → List ℕ → Type 0
 Lines bytes from head pel p₀ at₀ out₀ n q at out =
     (p : Pen) (c : Command) (l : Look) (m : List ℕ)
-    → Ready 2 p c l
+    → StrokeDue 2 p c l
     → p .point ≡ p₀
     → ((a b s : Point) → headBytes head ≡ headOf (recordOf l 2 0 0 0 a b s))
     → pel ≡ l .domain .pel

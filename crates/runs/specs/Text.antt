@@ -8,7 +8,7 @@ use Rattle.rules.specs.declared.Pen.{Pen}
 use Rattle.rules.specs.declared.Repertoire.{Repertoire}
 use Rattle.rules.specs.declared.Repertoire.the-variants.{Primary, Supplementary, Mosaic, Drcs}
 use Rattle.rules.specs.Record.{origin}
-use Rattle.rules.specs.Drawing.{noOperand, opened}
+use Rattle.rules.specs.Drawing.{noOperand, newCommand}
 use Rattle.figures.specs.Carried.{Carried}
 use Rattle.runs.specs.Run.{standing}
 
@@ -26,7 +26,7 @@ operandAfter (suc n) o = noOperand
 
 abbrev pub commandAfter : ℕ → Command → Command
 commandAfter zero c = c
-commandAfter (suc n) c = opened 0 origin
+commandAfter (suc n) c = newCommand 0 origin
 
 -- A state after so many characters, their records written from a place on
 abbrev pub typed : ℕ → Pen → Command → Look → List ℕ → ℕ → List ℕ → Carried

@@ -2,9 +2,9 @@
 pub mod strokes;
 pub mod text;
 
-use records::ROOM_FOR_STEP;
 use rules::Command;
 use rules::Pen;
+use rules::ROOM_FOR_STEP;
 ghost use Prim.Native.Nat.{ℕ, _+_, _*_, _<_, _≤_};
 ghost use Rattle.rules.specs.Reading.{roomForStep};
 

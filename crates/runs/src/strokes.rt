@@ -4,16 +4,16 @@ use coordinates::whole::are_data;
 use coordinates::whole::has_three;
 use coordinates::whole::point_of_three;
 use coordinates::whole::three_bytes;
-use figures::answers::ORIGIN;
 use records::Head;
-use records::ROOM_FOR_STEP;
 use records::head_of;
 use records::put_words;
 use rules::Command;
 use rules::Due;
 use rules::Look;
+use rules::ORIGIN;
 use rules::Pen;
 use rules::Point;
+use rules::ROOM_FOR_STEP;
 ghost use mathlib.Core.Path.{_≡_};
 ghost use mathlib.Core.Bool.{true, false};
 ghost use mathlib.Core.List.{List};
@@ -23,7 +23,7 @@ ghost use Rattle.rules.specs.declared.Pattern.{Pattern};
 ghost use Rattle.rules.specs.declared.Set.{Set};
 ghost use Rattle.rules.specs.Drawing.{row, rowOf};
 ghost use Rattle.runs.specs.Run.{standing, Run};
-ghost use Rattle.runs.specs.Strokes.{penAfter, Ready, Moves, Lines};
+ghost use Rattle.runs.specs.Strokes.{penAfter, StrokeDue, Moves, Lines};
 
 const POINT_SET: u8 = 36;
 
@@ -113,7 +113,7 @@ fn is_first(due: Due) -> bool
 
 // Whether the first operand is due, none of it begun, and points have three bytes in two dimensions.
 fn is_ready(pen: Pen, command: Command, look: Look) -> bool
-    ensures { λ r. ⌜ (r ≡ true → (kind : ℕ) → rowOf (command .opcode) ≡ row Pattern.A kind false → Ready kind pen command look) ⌝ }
+    ensures { λ r. ⌜ (r ≡ true → (kind : ℕ) → rowOf (command .opcode) ≡ row Pattern.A kind false → StrokeDue kind pen command look) ⌝ }
 {
     if pen.operand.count != 0 {
         return false;
@@ -127,7 +127,7 @@ fn is_ready(pen: Pen, command: Command, look: Look) -> bool
 }
 
 // As many bytes as are whole points of POINT SET or LINE, absolute. The command stays as it is.
-pub fn run_strokes(
+pub fn draw_strokes(
     pen: Pen,
     command: Command,
     look: Look,

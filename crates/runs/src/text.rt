@@ -1,15 +1,15 @@
 // Runs of characters.
 use crate::Ran;
 use crate::most_steps;
-use drawing::closing::opened;
+use drawing::closing::new_command;
 use drawing::operands::resting;
-use figures::answers::ORIGIN;
 use records::head_of;
 use records::put_words;
 use records::set_number;
 use records::with_code;
 use rules::Command;
 use rules::Look;
+use rules::ORIGIN;
 use rules::Pen;
 use rules::Repertoire;
 use rules::Set;
@@ -107,6 +107,6 @@ pub fn run_text(
         count,
         at: at + 40 * count,
         pen: resting(pen.point),
-        command: opened(0, ORIGIN),
+        command: new_command(0, ORIGIN),
     }
 }

@@ -10,7 +10,7 @@ use lib.Dec.{eqb, ltb}
 use Rattle.rules.specs.declared.Definition.{Definition}
 use Rattle.rules.specs.declared.Refusal.{Refusal}
 use Rattle.rules.specs.declared.Refusal.the-variants.{StoreFull, OutOfRange}
-use Rattle.rules.specs.Store.{nextOf, setNext, countOf, setCount, goodCount, setBodyByte, Filling, Storing, NotStored, Stored, onStore, takeCell, linkCell, storeInNew, storeInLast, storeByte, storeNext, storeEscapeAnd}
+use Rattle.rules.specs.Store.{nextOf, setNext, countOf, setCount, goodCount, setBodyByte, Filling, Storing, NotStored, Stored, onStore, takeCell, linkCell, storeInNew, storeInLast, storeByte, storeNext, storeEscapeAnd, esc}
 use Rattle.rules.proofs.Bools.{by-test, pick-by}
 use Rattle.macros.specs.Lent.{Sized}
 use Rattle.storing.specs.Storing.{fillingOf, storingOf, KeptIfRefused}
@@ -53,11 +53,11 @@ module _ (f : Filling) (b : ℕ) where
   in-new n nz = simp (ne-eqb n 0 nz)
 
   -- The first byte is refused, or the second decides
-  refused-first : (r : Refusal) → storeByte f 27 ≡ NotStored r → storeEscapeAnd f b ≡ NotStored r
+  refused-first : (r : Refusal) → storeByte f esc ≡ NotStored r → storeEscapeAnd f b ≡ NotStored r
   unfolding storeEscapeAnd storeNext
   refused-first r e = simp e
 
-  second-decides : (g : Filling) → storeByte f 27 ≡ Stored g → storeEscapeAnd f b ≡ storeByte g b
+  second-decides : (g : Filling) → storeByte f esc ≡ Stored g → storeEscapeAnd f b ≡ storeByte g b
   unfolding storeEscapeAnd storeNext
   second-decides g e = simp e
 
@@ -83,51 +83,51 @@ module _ (g : Filling) (b : ℕ) (nz : g .definition .last ≡ 0 → ⊥) where
 
 module _ (f : Filling) (b : ℕ) (sized : Sized (f .store)) (low : f .definition .last < 256) (free : front f < 256) where
   -- The first byte takes a new cell, which then holds one byte
-  new-last : inNew (front f) f 27 .definition .last ≡ front f
+  new-last : inNew (front f) f esc .definition .last ≡ front f
   new-last = link-last (front f) (onStore (takeCell (front f)) f) (eqb (f .definition .last) 0)
 
-  new-count : countOf (inNew (front f) f 27 .store) (front f) ≡ 1
+  new-count : countOf (inNew (front f) f esc .store) (front f) ≡ 1
   unfolding takeCell
   new-count =
       let n = front f in
       let t = onStore (takeCell n) f in
       let linked = linkCell (eqb (f .definition .last) 0) n t in
-      count-setBodyByte (linked .store) n 0 27 n (omega arith)
+      count-setBodyByte (linked .store) n 0 esc n (omega arith)
       ∙ link-count n t (eqb (f .definition .last) 0)
       ∙ count-setCount (setNext (setNext (f .store) 0 (nextOf (f .store) n)) n 0) n 1 (simp length-setNext sized) free
 
-  two-new : storeByte f 27 ≡ storeInNew (front f) f 27 → Ending f b (freeCell (f .store))
+  two-new : storeByte f esc ≡ storeInNew (front f) f esc → Ending f b (freeCell (f .store))
   unfolding freeCell
   two-new e =
-      let g = inNew (front f) f 27 in
+      let g = inNew (front f) f esc in
       let one : held g ≡ 1 = ap (countOf (g .store)) new-last ∙ new-count in
       pick-by (Ending f b) (eqb (front f) 0)
-      (λ z. refused-first f b StoreFull (e ∙ new-none f 27 (front f) (eqb-true (front f) 0 z)))
+      (λ z. refused-first f b StoreFull (e ∙ new-none f esc (front f) (eqb-true (front f) 0 z)))
       (λ z.
       let nz = eqb-false (front f) 0 z in
-      rw (second-decides f b g (e ∙ in-new f 27 (front f) nz)) (after-room g b (λ q. nz (sym new-last ∙ q)) (omega arith) (omega arith)))
+      rw (second-decides f b g (e ∙ in-new f esc (front f) nz)) (after-room g b (λ q. nz (sym new-last ∙ q)) (omega arith) (omega arith)))
 
   -- The first byte goes into the last cell
   module _ (nz : f .definition .last ≡ 0 → ⊥) (good : goodCount (held f) ≡ true) (room : held f < 30) where
-    in-count : held (inLast (held f) f 27) ≡ suc (held f)
-    in-count = count-setCount (setBodyByte (f .store) (f .definition .last) (held f) 27) (f .definition .last) _ (simp length-setBodyByte sized) low
+    in-count : held (inLast (held f) f esc) ≡ suc (held f)
+    in-count = count-setCount (setBodyByte (f .store) (f .definition .last) (held f) esc) (f .definition .last) _ (simp length-setBodyByte sized) low
 
-    in-front : front (inLast (held f) f 27) ≡ front f
+    in-front : front (inLast (held f) f esc) ≡ front f
     in-front =
-        next-setCount (setBodyByte (f .store) (f .definition .last) (held f) 27) (f .definition .last) _ 0
-        ∙ next-setBodyByte (f .store) (f .definition .last) (held f) 27 0 room
+        next-setCount (setBodyByte (f .store) (f .definition .last) (held f) esc) (f .definition .last) _ 0
+        ∙ next-setBodyByte (f .store) (f .definition .last) (held f) esc 0 room
 
-    in-decides : storeEscapeAnd f b ≡ storeByte (inLast (held f) f 27) b
-    in-decides = second-decides f b _ (byte-in f 27 nz good room ∙ in-last f 27 (held f))
+    in-decides : storeEscapeAnd f b ≡ storeByte (inLast (held f) f esc) b
+    in-decides = second-decides f b _ (byte-in f esc nz good room ∙ in-last f esc (held f))
 
     -- Both bytes do, or the second takes a new cell
     two-in : held f < 29 → Accepted (storeEscapeAnd f b)
-    two-in h = rw in-decides (after-room (inLast (held f) f 27) b nz (omega (arith, in-count)) (omega (arith, in-count)))
+    two-in h = rw in-decides (after-room (inLast (held f) f esc) b nz (omega (arith, in-count)) (omega (arith, in-count)))
 
     two-split : held f ≡ 29 → Ending f b (freeCell (f .store))
     unfolding freeCell
     two-split h =
-        let g = inLast (held f) f 27 in
+        let g = inLast (held f) f esc in
         let full = in-decides ∙ after-full g b nz (omega (arith, in-count)) in
         pick-by (Ending f b) (eqb (front f) 0)
         (λ z. full ∙ new-none g b (front g) (in-front ∙ eqb-true (front f) 0 z))
@@ -138,13 +138,13 @@ module _ (f : Filling) (b : ℕ) (sized : Sized (f .store)) (low : f .definition
   two-over nz good h =
       by-test (eqb (held f) 29)
       (λ e. two-split nz good (omega (arith, eqb-true (held f) 29 e)) (eqb-true (held f) 29 e))
-      (λ e. two-new (byte-full f 27 nz good (omega (arith, good-most (held f) good, eqb-false (held f) 29 e))))
+      (λ e. two-new (byte-full f esc nz good (omega (arith, good-most (held f) good, eqb-false (held f) 29 e))))
 
   -- The test tells how both bytes end
   two : Ending f b (roomForTwo (f .store) (f .definition .last))
   unfolding roomForTwo
   two =
-      pick-by (Ending f b) (eqb (f .definition .last) 0) (λ e. two-new (byte-first f 27 (eqb-true (f .definition .last) 0 e)))
+      pick-by (Ending f b) (eqb (f .definition .last) 0) (λ e. two-new (byte-first f esc (eqb-true (f .definition .last) 0 e)))
       (λ e.
       let nz = eqb-false (f .definition .last) 0 e in
       pick-by (Ending f b) (goodCount (held f))
@@ -152,13 +152,13 @@ module _ (f : Filling) (b : ℕ) (sized : Sized (f .store)) (low : f .definition
       pick-by (Ending f b) (ltb (held f) 29)
       (λ h. two-in nz good (omega (arith, ltb-true (held f) 29 h)) (ltb-true (held f) 29 h))
       (λ h. two-over nz good (ltb-false (held f) 29 h)))
-      (λ bad. refused-first f b OutOfRange (byte-bad f 27 nz bad)))
+      (λ bad. refused-first f b OutOfRange (byte-bad f esc nz bad)))
 
   -- From what the calls hand back
   pub two-refused : (r : Refusal) → Short r ≡ roomForTwo (f .store) (f .definition .last) → NotStored r ≡ storeEscapeAnd f b
   two-refused r e = sym (rw (← e) at two)
 
-  module _ (room : Enough ≡ roomForTwo (f .store) (f .definition .last)) (a : StoreAnswer) (firsts st : List ℕ) (e : storingOf a firsts st ≡ storeByte f 27) where
+  module _ (room : Enough ≡ roomForTwo (f .store) (f .definition .last)) (a : StoreAnswer) (firsts st : List ℕ) (e : storingOf a firsts st ≡ storeByte f esc) where
     accepted : Accepted (storeEscapeAnd f b)
     accepted = rw (← room) at two
 

@@ -19,7 +19,6 @@ use Rattle.rules.specs.declared.Waiting.{Waiting}
 use Rattle.rules.specs.declared.Waiting.the-variants.{Nothing, Shifted, Escape, Designator, Longer, Name, Body, BodyEscape}
 use Rattle.rules.specs.Coding.{afterEscape, unfinished}
 use Rattle.rules.specs.Drawing.{advanced, dueAfter, lengthOf}
-use Rattle.rules.specs.Ranges.{operandLength}
 
 -- Patterns that do not repeat
 abbrev due-rest : List ℕ
@@ -59,25 +58,6 @@ length-otherwise Foreground o h = absurd (miss length-rest 9 tt h)
 length-otherwise Background o h = absurd (miss length-rest 10 tt h)
 length-otherwise Shade o h = refl
 length-otherwise Dropped o h = absurd (miss length-rest 12 tt h)
-
--- Patterns of multi-value operands
-abbrev operand-rest : List ℕ
-operand-rest = 0 ∷ 1 ∷ 2 ∷ 3 ∷ 4 ∷ 5 ∷ 6 ∷ 7 ∷ 8 ∷ 10 ∷ 11 ∷ []
-
-pub operand-otherwise : (p : Pattern) (o : Domain) → OneOf operand-rest (tagOf the-pattern p) → o .multi ≡ operandLength p o
-unfolding operandLength
-operand-otherwise A o h = refl
-operand-otherwise D o h = refl
-operand-otherwise AA o h = refl
-operand-otherwise AD o h = refl
-operand-otherwise ArcDD o h = refl
-operand-otherwise ArcADD o h = refl
-operand-otherwise PolygonD o h = refl
-operand-otherwise PolygonAD o h = refl
-operand-otherwise Domain·pattern o h = refl
-operand-otherwise SelectColour o h = absurd (miss operand-rest 9 tt h)
-operand-otherwise SetColour o h = refl
-operand-otherwise Skipped o h = refl
 
 -- What is waited for after another byte than ESC
 abbrev escape-rest : List ℕ

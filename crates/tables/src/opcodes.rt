@@ -7,7 +7,6 @@ use rules::Row;
 ghost use mathlib.Core.Path.{_≡_};
 ghost use Prim.Native.Nat.{_-_};
 ghost use Rattle.rules.specs.Drawing.{rows, rowOf, nth, roleOf, advanced, dueAfter, lengthOf};
-ghost use Rattle.rules.specs.Ranges.{operandLength};
 
 // The row of an opcode that is skipped.
 const OTHER: Row = Row {
@@ -182,7 +181,7 @@ pub fn rows() -> [Row; 32]
     ROWS
 }
 
-// Where the row of an opcode stands in the table. A control closes a command and opens none, so that what follows is skipped as after 2/0.
+// Where the row of an opcode stands in the table. A control opens none: data after it is dropped as after 2/0, whose row is the first.
 pub fn row_place(opcode: u8) -> usize
     ensures { λ r. ⌜ r ≡ opcode - 32 ⌝ }
 {
@@ -284,16 +283,6 @@ pub fn length_of(r: Role, d: Domain) -> u8
         Role::Foreground => d.single,
         Role::Background => d.single,
         Role::Dropped => 0,
-        _ => d.multi,
-    }
-}
-
-// The bytes of the operands of an open command, by its pattern.
-pub fn operand_length(p: Pattern, d: Domain) -> u8
-    ensures { λ n. ⌜ n ≡ operandLength p d ⌝ }
-{
-    match p {
-        Pattern::SelectColour => d.single,
         _ => d.multi,
     }
 }

@@ -28,7 +28,7 @@ use Rattle.rules.specs.declared.Waiting.{Waiting}
 use Rattle.rules.specs.Store.{firstOf}
 use Rattle.rules.specs.Bodies.{mostDepth}
 use Rattle.rules.specs.Coding.{Reaction, Refuse, Call, React, react, afterEscape}
-use Rattle.rules.specs.Drawing.{Outcome, Refuse as Refuse·drawing, Draw, act}
+use Rattle.rules.specs.Drawing.{Outcome, NotDrawn, Draw, act}
 use Rattle.rules.specs.Record.{bytesOfAll}
 use Rattle.rules.specs.Reading.{roomForStep, consumedBy}
 use Rattle.rules.specs.Step.{State, withBodies, Move, onOutcome, call, onReaction, opensInside, interpret}
@@ -38,7 +38,7 @@ use Rattle.figures.specs.declared.Drawn.{Drawn}
 use Rattle.figures.specs.Carried.{Carried, carry, drawingOf, carriedOf}
 use Rattle.drawing.proofs.Refusals.{OnlyVertices, act-vertices}
 use Rattle.bodies.specs.Stack.{bodiesOf}
-use Rattle.coding.specs.View.{codingOf, effectOn, reactionOf, Kept}
+use Rattle.coding.specs.View.{codingOf, effectOn, reactionOf, AsLent}
 use Rattle.coding.specs.declared.reactions.Effect.{Effect}
 use Rattle.coding.specs.declared.reactions.Effect.the-variants.{Refuses, Calls, Acts}
 use Rattle.coding.specs.declared.reactions.Reacted.{Reacted}
@@ -48,7 +48,7 @@ use Rattle.turns.specs.declared.step.Course.the-variants.{GoesOn, Ends a
 use Rattle.turns.specs.declared.step.Progress.{Progress}
 use Rattle.turns.specs.declared.step.Turned.{Turned}
 use Rattle.turns.specs.Turn.{onMove, sourceAt, readOn, stepBy, interpreted, Left, leaves}
-use Rattle.turns.specs.View.{stateAt, codingAfter, stepsTo, writtenTo, answered, leftBy, leftOf, DueBy, Due, RoomBy, Ready, readOnIf}
+use Rattle.turns.specs.View.{stateAt, codingAfter, stepsTo, writtenTo, answered, leftBy, leftOf, DrawDueBy, DrawDue, RoomBy, Ready, readOnIf}
 
 -- 6 is for a byte from a body
 pub inside-none : (d : ℕ) (x : Waiting) (b : ℕ) → d ≡ 0 → false ≡ opensInside (sourceAt d) x b
@@ -87,7 +87,7 @@ abbrev goes : Progress → Turned
 goes p = record { course = GoesOn; progress = p; cursor = record { cell = 0; place = 0 } }
 
 -- To a reading that ends nothing is due
-pub ends-due : (p q : Progress) (r : Turned) (a : Answer) → r ≡ record { course = Ends·course a; progress = q; cursor = record { cell = 0; place = 0 } } → Due p r
+pub ends-due : (p q : Progress) (r : Turned) (a : Answer) → r ≡ record { course = Ends·course a; progress = q; cursor = record { cell = 0; place = 0 } } → DrawDue p r
 ends-due p q r a e = rw e tt
 
 pub ends-room : (q : Progress) (r : Turned) (a : Answer) (n : ℕ) → r ≡ record { course = Ends·course a; progress = q; cursor = record { cell = 0; place = 0 } } → RoomBy (r .course) n
@@ -152,7 +152,7 @@ module _ (budget : ℕ) (p : Progress) (cells places firsts : List ℕ) (d : Dra
       → leftOf budget p (record { course = Draws a; progress = q; cursor = x }) cells places firsts d st out ≡ asked a
   draws-left a after q k = rw k
 
-pub draws-due : (a : Action) (p : Progress) (s : Sets) (u : Waiting) (n : ℕ) (q : Progress) → Ready p n → q ≡ stepsTo n (p .depth) s u p → DueBy (Draws a) p q
+pub draws-due : (a : Action) (p : Progress) (s : Sets) (u : Waiting) (n : ℕ) (q : Progress) → Ready p n → q ≡ stepsTo n (p .depth) s u p → DrawDueBy (Draws a) p q
 draws-due a p s u n q h e = (rw (e, h .after), h .depth)
 
 -- The action of a turn from p to q, which drawing answers with r
@@ -177,7 +177,7 @@ module _ (budget : ℕ) (p q : Progress) (e : q ≡ stepsTo (consumedBy (sourceA
       by : (o : Outcome) → carriedOf r map₁ out₁ ≡ carry o d (p .written) out → OnlyVertices o
           → record { course = Ends·course (Refused TooManyVertices); state = answered (Refused TooManyVertices) (stateAt budget p cells₁ places₁ firsts (drawingOf pen command look map₁) st); consumed = p .at; written = p .written; output = out₁ }
           ≡ leaves (stepBy (p .depth) x (onOutcome o (codingOf (q .sets) (q .waiting) firsts) st) (stateAt budget p cells places firsts d st)) (p .at) (p .written) out
-      by (Refuse·drawing m) h v = rw (v, same, ap (λ (z : Carried). z .drawing .map) h, ap (λ (z : Carried). z .output) h, k)
+      by (NotDrawn m) h v = rw (v, same, ap (λ (z : Carried). z .drawing .map) h, ap (λ (z : Carried). z .output) h, k)
       by (Draw c rs) h v = false-true (sym (ap (λ (z : Carried). z .refused) h) ∙ n)
 
   pub draw-goes : r .refused ≡ false
@@ -191,7 +191,7 @@ module _ (budget : ℕ) (p q : Progress) (e : q ≡ stepsTo (consumedBy (sourceA
       by : (o : Outcome) → carriedOf r map₁ out₁ ≡ carry o d (p .written) out
           → record { course = GoesOn; state = stateAt budget (writtenTo (r .at) q) cells₁ places₁ firsts after·draw st; consumed = q .at; written = r .at; output = out₁ }
           ≡ leaves (stepBy (p .depth) x (onOutcome o (codingOf (q .sets) (q .waiting) firsts) st) (stateAt budget p cells places firsts d st)) (p .at) (p .written) out
-      by (Refuse·drawing m) h = true-false (sym (ap (λ (z : Carried). z .refused) h) ∙ n)
+      by (NotDrawn m) h = true-false (sym (ap (λ (z : Carried). z .refused) h) ∙ n)
       by (Draw c rs) h =
           rw (← on, ap (λ (z : Progress). z .at) e, ap (λ (z : Progress). z .steps) e, ap (λ (z : Progress). z .depth) e, add-one (p .steps))
           (ap (λ (z : Carried).
@@ -238,7 +238,7 @@ module _ (budget : ℕ) (p : Progress) (cells places firsts : List ℕ) (d : Dra
         let r : effectOn y after st₁ ≡ reaction = rw (← t) e in
         rw (h, ← r, ← f) q
 
-    pub byte-refused : (x : Refusal) → m .effect ≡ Refuses x → (Kept m firsts firsts₁) × (Kept m st st₁) → (r : Turned) → r ≡ stops p x
+    pub byte-refused : (x : Refusal) → m .effect ≡ Refuses x → (AsLent m firsts firsts₁) × (AsLent m st st₁) → (r : Turned) → r ≡ stops p x
         → Answers (leftOf budget p r cells places firsts₁ d st₁ out)
     unfolding onReaction onMove leaves
     byte-refused x t k r q =
@@ -250,7 +250,7 @@ module _ (budget : ℕ) (p : Progress) (cells places firsts : List ℕ) (d : Dra
     as-lent : (k : State → Move) → firsts₁ ≡ firsts → st₁ ≡ st → leavesBy k reacted ≡ leavesBy k entry
     as-lent k f g = rw (f, g)
 
-    pub byte-calls : (name : ℕ) → m .effect ≡ Calls name → (Kept m firsts firsts₁) × (Kept m st st₁) → (l : Left)
+    pub byte-calls : (name : ℕ) → m .effect ≡ Calls name → (AsLent m firsts firsts₁) × (AsLent m st st₁) → (l : Left)
         → l ≡ leavesBy (call name after) reacted → Answers l
     unfolding onReaction
     byte-calls name t k l q =

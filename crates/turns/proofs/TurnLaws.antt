@@ -31,7 +31,7 @@ use Rattle.turns.specs.declared.step.Course.the-variants.{GoesOn, Ends a
 use Rattle.turns.specs.declared.step.Progress.{Progress}
 use Rattle.turns.specs.declared.step.Turned.{Turned}
 use Rattle.turns.specs.Turn.{Turn, Ends, stopped, onSought, turn, nothingLeft, nextByte, sourceAt, advanced, interpreted, Left, leaves}
-use Rattle.turns.specs.View.{stateAt, atDepth, leftBy, leftOf, DueBy, Due, Ready}
+use Rattle.turns.specs.View.{stateAt, atDepth, leftBy, leftOf, DrawDueBy, DrawDue, Ready}
 
 -- Whether something is left: of a body, or of the piece
 
@@ -111,24 +111,24 @@ abbrev nowhere : Cursor
 nowhere = record { cell = 0; place = 0 }
 
 -- Where an action is due, the progress before it has the depth of the one after it
-module _ (p : Progress) (d : ℕ) (q : Progress) (f : q ≡ atDepth d p) (r : Turned) (u : Due q r) where
-  kept-depth : (a : Action) → DueBy (Draws a) q (r .progress) → atDepth (r .progress .depth) p ≡ q
+module _ (p : Progress) (d : ℕ) (q : Progress) (f : q ≡ atDepth d p) (r : Turned) (u : DrawDue q r) where
+  kept-depth : (a : Action) → DrawDueBy (Draws a) q (r .progress) → atDepth (r .progress .depth) p ≡ q
   kept-depth a v = ap (λ (n : ℕ). atDepth n p) (ap (λ (z : Progress). z .depth) (v .0) ∙ ap (λ (z : Progress). z .depth) f) ∙ sym f
 
-  pub due-from : Due (atDepth (r .progress .depth) p) r
+  pub due-from : DrawDue (atDepth (r .progress .depth) p) r
   due-from = by (r .course) u
     where
-      by : (c : Course) → DueBy c q (r .progress) → DueBy c (atDepth (r .progress .depth) p) (r .progress)
+      by : (c : Course) → DrawDueBy c q (r .progress) → DrawDueBy c (atDepth (r .progress .depth) p) (r .progress)
       by GoesOn v = tt
       by (Ends·course a) v = tt
-      by (Draws a) v = subst (λ (z : Progress). DueBy (Draws a) z (r .progress)) (sym (kept-depth a v)) v
+      by (Draws a) v = subst (λ (z : Progress). DrawDueBy (Draws a) z (r .progress)) (sym (kept-depth a v)) v
 
-left-due : (budget : ℕ) (p : Progress) (d : ℕ) (q : Progress) → q ≡ atDepth d p → (r : Turned) → Due q r
+left-due : (budget : ℕ) (p : Progress) (d : ℕ) (q : Progress) → q ≡ atDepth d p → (r : Turned) → DrawDue q r
     → (cells places firsts : List ℕ) (drawing : Drawing) (st out : List ℕ)
     → leftOf budget (atDepth (r .progress .depth) p) r cells places firsts drawing st out ≡ leftOf budget q r cells places firsts drawing st out
 left-due budget p d q f r u cells places firsts drawing st out = by (r .course) u
   where
-    by : (c : Course) → DueBy c q (r .progress)
+    by : (c : Course) → DrawDueBy c q (r .progress)
         → leftBy c budget (atDepth (r .progress .depth) p) (r .progress) (r .cursor) cells places firsts drawing st out
         ≡ leftBy c budget q (r .progress) (r .cursor) cells places firsts drawing st out
     by GoesOn v = refl
@@ -196,7 +196,7 @@ module _ (budget : ℕ) (p : Progress) (cells places firsts : List ℕ) (drawing
         unfolding onSought leaves
         turn-bad j r g = comes (stopped OutOfRange removed) _ (rw (found, ← i, j, enough, some-left)) (rw (g, f))
 
-        pub turn-byte : {b : ℕ} {y : Cursor} → x ≡ Byte b y → (r : Turned) → Due q r → (cells₁ places₁ firsts₁ st₁ : List ℕ)
+        pub turn-byte : {b : ℕ} {y : Cursor} → x ≡ Byte b y → (r : Turned) → DrawDue q r → (cells₁ places₁ firsts₁ st₁ : List ℕ)
             → leftOf budget q r cells₁ places₁ firsts₁ drawing st₁ out ≡ leaves (interpreted (q .depth) y b removed) (q .at) (q .written) out
             → Answers (leftOf budget (atDepth (r .progress .depth) p) r cells₁ places₁ firsts₁ drawing st₁ out)
         unfolding onSought interpreted

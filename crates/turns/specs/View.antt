@@ -119,14 +119,14 @@ leftOf budget p r cells places firsts d st out =
     leftBy (r .course) budget p (r .progress) (r .cursor) cells places firsts d st out
 
 -- Where an action is to be drawn, q is the progress of an accepted step from p that keeps the bodies
-abbrev pub DueBy : Course → Progress → Progress → Type 0
-DueBy GoesOn p q = Unit
-DueBy (Ends a) p q = Unit
-DueBy (Draws a) p q =
+abbrev pub DrawDueBy : Course → Progress → Progress → Type 0
+DrawDueBy GoesOn p q = Unit
+DrawDueBy (Ends a) p q = Unit
+DrawDueBy (Draws a) p q =
     (q ≡ stepsTo (consumedBy (sourceAt (p .depth)) (p .at)) (p .depth) (q .sets) (q .waiting) p) × (p .depth ≤ 8)
 
-abbrev pub Due : Progress → Turned → Type 0
-Due p r = DueBy (r .course) p (r .progress)
+abbrev pub DrawDue : Progress → Turned → Type 0
+DrawDue p r = DrawDueBy (r .course) p (r .progress)
 
 -- and the output has room for a step
 abbrev pub RoomBy : Course → ℕ → Type 0

@@ -27,12 +27,13 @@ ghost use Rattle.rules.specs.declared.Drawing.{Drawing};
 ghost use Rattle.rules.specs.Drawing.{act};
 ghost use Rattle.rules.specs.Ranges.{waitingFits, drawingFits};
 ghost use Rattle.rules.specs.Step.{onOutcome, call, opensInside};
+ghost use Rattle.rules.specs.Reading.{roomForStep};
 ghost use Rattle.macros.specs.Lent.{Sized, IsName};
 ghost use Rattle.figures.specs.Carried.{carryOut, drawingOf, carriedOf};
 ghost use Rattle.bodies.specs.Stack.{bodiesOf};
 ghost use Rattle.coding.specs.View.{setsAfter};
 ghost use Rattle.turns.specs.Turn.{sourceAt, readOn, stepBy, interpreted, leaves};
-ghost use Rattle.turns.specs.View.{stateAt, stepsTo, codingAfter, leftOf, Due, Ready, readOnIf};
+ghost use Rattle.turns.specs.View.{stateAt, stepsTo, codingAfter, leftOf, DrawDue, Ready, readOnIf};
 
 // Where a reading stands between two steps. The drawing state and the arrays of the state are lent beside it.
 pub struct Progress {
@@ -126,7 +127,7 @@ fn call(
 ) -> Turned
     requires { ⌜ (Ready progress (onward .at)) × (IsName name) ⌝ }
     ensures left { λ r. ⌜ ((budget : ℕ) (d : Drawing) (st out : List ℕ) → leftOf budget progress r (now (cells .exit)) (now (places .exit)) (now (firsts .entry)) d st out ≡ leaves (stepBy (progress .depth) (onward .cursor) (call name (codingAfter reacted progress (now (firsts .entry)))) (stateAt budget progress (now (cells .entry)) (now (places .entry)) (now (firsts .entry)) d st)) (progress .at) (progress .written) out) ⌝ }
-    ensures due { λ r. ⌜ Due progress r ⌝ }
+    ensures due { λ r. ⌜ DrawDue progress r ⌝ }
 {
     let depth = progress.depth;
     if MOST_DEPTH <= depth {
@@ -153,7 +154,7 @@ fn idle(
 ) -> Turned
     requires { ⌜ Ready progress (onward .at) ⌝ }
     ensures left { λ r. ⌜ ((budget : ℕ) (d : Drawing) (firsts st out : List ℕ) → leftOf budget progress r (now (cells .exit)) (now (places .exit)) firsts d st out ≡ leaves (stepBy (progress .depth) (onward .cursor) (onOutcome (act Action.Idle d) (codingAfter reacted progress firsts) st) (stateAt budget progress (now (cells .entry)) (now (places .entry)) firsts d st)) (progress .at) (progress .written) out) ⌝ }
-    ensures due { λ r. ⌜ Due progress r ⌝ }
+    ensures due { λ r. ⌜ DrawDue progress r ⌝ }
 {
     let depth = progress.depth;
     let cursor = onward.cursor;
@@ -169,7 +170,7 @@ fn idle(
 fn draws(progress: Progress, onward: Onward, action: Action, reacted: Reacted) -> Turned
     requires { ⌜ Ready progress (onward .at) ⌝ }
     ensures left { λ r. ⌜ ((budget : ℕ) (cells places firsts : List ℕ) (d : Drawing) (st out : List ℕ) → leftOf budget progress r cells places firsts d st out ≡ leaves (stepBy (progress .depth) (onward .cursor) (onOutcome (act action d) (codingAfter reacted progress firsts) st) (stateAt budget progress cells places firsts d st)) (progress .at) (progress .written) out) ⌝ }
-    ensures due { λ r. ⌜ Due progress r ⌝ }
+    ensures due { λ r. ⌜ DrawDue progress r ⌝ }
 {
     let cursor = onward.cursor;
     Turned {
@@ -189,7 +190,7 @@ fn ask(
 ) -> Turned
     requires { ⌜ Ready progress (onward .at) ⌝ }
     ensures left { λ r. ⌜ ((budget : ℕ) (d : Drawing) (firsts st out : List ℕ) → leftOf budget progress r (now (cells .exit)) (now (places .exit)) firsts d st out ≡ leaves (stepBy (progress .depth) (onward .cursor) (onOutcome (act action d) (codingAfter reacted progress firsts) st) (stateAt budget progress (now (cells .entry)) (now (places .entry)) firsts d st)) (progress .at) (progress .written) out) ⌝ }
-    ensures due { λ r. ⌜ Due progress r ⌝ }
+    ensures due { λ r. ⌜ DrawDue progress r ⌝ }
 {
     match action {
         Action::Idle => idle(progress, onward, reacted, cells, places),
@@ -209,7 +210,7 @@ pub fn interpret(
 ) -> Turned
     requires { ⌜ (Ready progress (onward .at)) × (Sized (now store)) × (waitingFits (progress .waiting) ≡ true) ⌝ }
     ensures left { λ r. ⌜ ((budget : ℕ) (d : Drawing) (out : List ℕ) → leftOf budget progress r (now (cells .exit)) (now (places .exit)) (now (firsts .exit)) d (now (store .exit)) out ≡ leaves (interpreted (progress .depth) (onward .cursor) byte (stateAt budget progress (now (cells .entry)) (now (places .entry)) (now (firsts .entry)) d (now (store .entry)))) (progress .at) (progress .written) out) ⌝ }
-    ensures due { λ r. ⌜ Due progress r ⌝ }
+    ensures due { λ r. ⌜ DrawDue progress r ⌝ }
 {
     let sets = progress.sets;
     let waiting = progress.waiting;
@@ -241,7 +242,7 @@ pub fn draw(
     out: &mut [u8],
     at: usize,
 ) -> Drawn
-    requires { ⌜ (depth ≤ 8) × (drawingFits (drawingOf pen command look (now map)) ≡ true) × (at + 120 ≤ length (now out)) ⌝ }
+    requires { ⌜ (depth ≤ 8) × (drawingFits (drawingOf pen command look (now map)) ≡ true) × (at + roomForStep ≤ length (now out)) ⌝ }
     ensures drawn { λ r. ⌜ carriedOf r (now (map .exit)) (now (out .exit)) ≡ carryOut (act action) (drawingOf pen command look (now (map .entry))) at (now (out .entry)) ⌝ }
     ensures bodies { λ r. ⌜ bodiesOf depth (now (cells .exit)) (now (places .exit)) ≡ readOnIf (r .refused) depth cursor (bodiesOf depth (now (cells .entry)) (now (places .entry))) ⌝ }
 {

@@ -6,9 +6,9 @@ use crate::step::ends;
 use crate::step::interpret;
 use bodies::depth_left;
 use bodies::innermost;
-use records::ROOM_FOR_STEP;
 use rules::Answer;
 use rules::Cursor;
+use rules::ROOM_FOR_STEP;
 use rules::Read;
 use rules::Refusal;
 ghost use mathlib.Core.Path.{_≡_};
@@ -22,7 +22,7 @@ ghost use Rattle.rules.specs.declared.Drawing.{Drawing};
 ghost use Rattle.rules.specs.Ranges.{waitingFits};
 ghost use Rattle.bodies.specs.Stack.{bodiesOf};
 ghost use Rattle.turns.specs.Turn.{turn, nothingLeft, nextByte, sourceAt, leaves};
-ghost use Rattle.turns.specs.View.{stateAt, atDepth, leftOf, Due, RoomBy};
+ghost use Rattle.turns.specs.View.{stateAt, atDepth, leftOf, DrawDue, RoomBy};
 
 fn nothing_left(depth: u8, piece: &[u8], at: usize) -> bool
     ensures { λ r. ⌜ r ≡ nothingLeft depth (drop at (now (piece .entry))) ⌝ }
@@ -77,7 +77,7 @@ pub fn turn(
 ) -> Turned
     requires { ⌜ (Sized (now store)) × (progress .depth ≤ 8) × (waitingFits (progress .waiting) ≡ true) × (progress .at ≤ length (now piece)) ⌝ }
     ensures left { λ r. ⌜ ((d : Drawing) (out : List ℕ) → leftOf budget (atDepth (r .progress .depth) progress) r (now (cells .exit)) (now (places .exit)) (now (firsts .exit)) d (now (store .exit)) out ≡ leaves (turn free (budget - progress .steps) (stateAt budget progress (now (cells .entry)) (now (places .entry)) (now (firsts .entry)) d (now (store .entry))) (drop (progress .at) (now (piece .entry)))) (progress .at) (progress .written) out) ⌝ }
-    ensures due { λ r. ⌜ Due (atDepth (r .progress .depth) progress) r ⌝ }
+    ensures due { λ r. ⌜ DrawDue (atDepth (r .progress .depth) progress) r ⌝ }
     ensures room { λ r. ⌜ RoomBy (r .course) free ⌝ }
 {
     let depth = depth_left(store, cells, places, progress.depth);

@@ -3,6 +3,7 @@ use bodies::bodies_fit;
 use coding::ranges::waiting_fits;
 use drawing::ranges::drawing_fits;
 use rules::Refusal;
+use rules::STORE_SIZE;
 use rules::Session;
 use rules::Status;
 use rules::Verdict;
@@ -13,8 +14,6 @@ ghost use Rattle.rules.specs.Ranges.{fits};
 ghost use Rattle.rules.specs.Store.{storeSize};
 ghost use Rattle.rules.specs.Reading.{verdict};
 ghost use Rattle.verdict.specs.Order.{inOrder};
-
-pub const STORE_SIZE: usize = 8192;
 
 fn fits(session: Session) -> bool
     ensures { λ r. ⌜ r ≡ fits session ⌝ }

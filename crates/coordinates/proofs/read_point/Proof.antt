@@ -20,14 +20,14 @@ loop-holds : tie.Need-loop-holds Inv-loop μ-loop
 unfolding point fromTop bitsOf
 loop-holds c = (search needs, refl)
 
-cast-join-byte : tie.Need-cast-join-byte Inv-loop μ-loop
-cast-join-byte c = search needs
+cast-gather-byte : tie.Need-cast-gather-byte Inv-loop μ-loop
+cast-gather-byte c = search needs
 
-shared-slice-read-join-byte : tie.Need-shared-slice-read-join-byte Inv-loop μ-loop
-shared-slice-read-join-byte c = search needs
+shared-slice-read-gather-byte : tie.Need-shared-slice-read-gather-byte Inv-loop μ-loop
+shared-slice-read-gather-byte c = search needs
 
-join-byte-requires : tie.Need-join-byte-requires Inv-loop μ-loop
-join-byte-requires c κs = search needs
+gather-byte-requires : tie.Need-gather-byte-requires Inv-loop μ-loop
+gather-byte-requires c κs = search needs
 
 add-i : tie.Need-add-i Inv-loop μ-loop
 add-i c = search needs
@@ -40,7 +40,7 @@ loop-again c =
     let s = c .before .before .before .before .before .args in
     let l = c .before .before .before .loop in (
       search needs,
-      c .join-byte .ensures
+      c .gather-byte .ensures
           ∙ ap (joined (s .three) (l .i) (getD (now (s .bytes)) (l .i) 0)) (l .inv .1)
           ∙ sym (point-next (s .three) (now (s .bytes)) (l .i) (c .before .before .loop-test .taken)),
     )
@@ -57,9 +57,9 @@ read-point-spec =
     Inv-loop
     μ-loop
     loop-holds
-    cast-join-byte
-    shared-slice-read-join-byte
-    join-byte-requires
+    cast-gather-byte
+    shared-slice-read-gather-byte
+    gather-byte-requires
     add-i
     loop-less
     loop-again

@@ -1,5 +1,5 @@
 use Rattle.listing.proofs.Places.{joined}
-use Rattle.listing.specs.Text.{signed}
+use Rattle.listing.specs.Text.{signedDecimal}
 use native.Mathlib.Omega.{arith}
 use borrow.Author.Tests.{lt-ltb, le-ltb}
 use mathlib.Core.Path.{_≡_}
@@ -15,7 +15,7 @@ same-length : tie.Need-same-length
 same-length c = search needs
 
 returns : tie.Need-returns
-unfolding signed
+unfolding signedDecimal
 returns c =
     let if1· = c .before .before .before .before .if1 in
     let put-number· = c .before .before .put-number in
@@ -40,7 +40,7 @@ same-length-2 : tie.Need-same-length-2
 same-length-2 c = search needs
 
 returns-2 : tie.Need-returns-2
-unfolding signed
+unfolding signedDecimal
 returns-2 c =
     let args· = c .before .before .before .before .before .before .before .before .before .before .before .args in
     let if1· = c .before .before .before .before .before .before .before .before .before .if1 in

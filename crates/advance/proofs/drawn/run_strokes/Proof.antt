@@ -62,8 +62,8 @@ returns-2 c =
       (none-most _ (args· .budget) (args· .progress) (now (args· .piece)) count (pre· .on) (omega (arith, good· .0 .1 .1 .1 .1 .1 .1 .0)), λ _. at),
     )
 
-run-strokes-requires : tie.Need-run-strokes-requires
-run-strokes-requires c κs =
+draw-strokes-requires : tie.Need-draw-strokes-requires
+draw-strokes-requires c κs =
     let bytes-next· = c .before .before .before .before .bytes-next in
     let source-of· = c .before .before .before .source-of in
     let pre· = c .before .before .before .before .before .before .before .before .before .before .before .pre in
@@ -73,8 +73,8 @@ read-past-requires : tie.Need-read-past-requires
 read-past-requires c κs =
     let pre· = c .before .before .before .before .before .before .before .before .before .before .before .before .before .before .before .pre in
     let bytes-next· = c .before .before .before .before .before .before .before .before .bytes-next in
-    let run-strokes· = c .before .before .before .run-strokes in
-    (pre· .depth, bytes-next· .ensures .0 .passes (run-strokes· .result .count) (run-strokes· .ensures .1))
+    let draw-strokes· = c .before .before .before .draw-strokes in
+    (pre· .depth, bytes-next· .ensures .0 .passes (draw-strokes· .result .count) (draw-strokes· .ensures .1))
 
 same-length : tie.Need-same-length
 same-length c = search needs
@@ -84,7 +84,7 @@ returns-3 c =
     let strokes-open· = c .before .before .before .before .before .before .before .before .before .before .before .before .strokes-open in
     let if1· = c .before .before .before .before .before .before .before .before .before .before .before .if1 in
     let args· = c .before .before .before .before .before .before .before .before .before .before .before .before .before .before .before .before .args in
-    let run-strokes· = c .before .before .before .before .run-strokes in
+    let draw-strokes· = c .before .before .before .before .draw-strokes in
     let bytes-next· = c .before .before .before .before .before .before .before .before .before .bytes-next in
     let source-of· = c .before .before .before .before .before .before .before .before .source-of in
     let read-past· = c .read-past in
@@ -93,11 +93,11 @@ returns-3 c =
     let good· = c .before .before .before .before .before .before .before .before .before .before .before .before .before .before .before .before .good in
     let drawn = strokes-open· .ensures (not-false (strokes-open· .result) (if1· .left)) in (
       λ firsts map. walk-run (args· .budget) (args· .progress) (now (args· .cells)) (now (args· .places)) firsts (args· .pen) (args· .command) (args· .look) map (now (args· .store)) (now (args· .piece)) (now (args· .out))
-          Pdi _ (run-strokes· .result .count) (run-strokes· .result .at) (penAfter (run-strokes· .result .count) (args· .pen) (run-strokes· .result .point)) (args· .command) (run-strokes· .last .1 .1 .1 .1 .1 .1 .0) (bytes-next· .result .from) (bytes-next· .result .to)
-          (drawn .0) (sym (drawn .1)) (source-of· .ensures) (run-strokes· .ensures .0 map) (run-strokes· .ensures .1) (bytes-next· .ensures .1) (bytes-next· .ensures .0) _ (read-past· .ensures),
+          Pdi _ (draw-strokes· .result .count) (draw-strokes· .result .at) (penAfter (draw-strokes· .result .count) (args· .pen) (draw-strokes· .result .point)) (args· .command) (draw-strokes· .last .1 .1 .1 .1 .1 .1 .0) (bytes-next· .result .from) (bytes-next· .result .to)
+          (drawn .0) (sym (drawn .1)) (source-of· .ensures) (draw-strokes· .ensures .0 map) (draw-strokes· .ensures .1) (bytes-next· .ensures .1) (bytes-next· .ensures .0) _ (read-past· .ensures),
       (
-        run-most (run-strokes· .result .count) (args· .budget) (args· .progress) (bytes-next· .ensures .0) (run-strokes· .ensures .1) (bytes-next· .ensures .1) (pre· .on) (omega (arith, fits· .budget)) (omega (arith, good· .0 .1 .1 .1 .1 .1 .1 .0)),
-        λ e. run-still (run-strokes· .ensures .0 []) e .0,
+        run-most (draw-strokes· .result .count) (args· .budget) (args· .progress) (bytes-next· .ensures .0) (draw-strokes· .ensures .1) (bytes-next· .ensures .1) (pre· .on) (omega (arith, fits· .budget)) (omega (arith, good· .0 .1 .1 .1 .1 .1 .1 .0)),
+        λ e. run-still (draw-strokes· .ensures .0 []) e .0,
       ),
     )
 
@@ -113,7 +113,7 @@ run-strokes-spec =
     begins-with-data-requires
     no-strokes-requires-2
     returns-2
-    run-strokes-requires
+    draw-strokes-requires
     read-past-requires
     same-length
     returns-3)

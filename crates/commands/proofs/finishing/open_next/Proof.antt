@@ -30,8 +30,8 @@ add-t21 c =
     let good· = c .before .before .before .before .before .before .before .before .before .before .before .before .good in
     omega (arith, pre·, finish· .ensures .1, good·)
 
-opened-requires : tie.Need-opened-requires
-opened-requires c κs = search needs
+new-command-requires : tie.Need-new-command-requires
+new-command-requires c κs = search needs
 
 same-length : tie.Need-same-length
 same-length c = search needs
@@ -42,12 +42,12 @@ returns c =
     let role-due· = c .before .before .before .before .before .before .before .before .before .before .before .role-due in
     let finish· = c .before .before .before .before .before .before .before .before .before .finish in
     let if1· = c .before .before .before .before .before .if1 in
-    let opened· = c .opened in
+    let new-command· = c .new-command in
     let put-mark· = c .before .before .before .put-mark in
-    (λ l o m k z. next-control _ _ o _ l m _ _ _ _ _ (closed _ _ o _ l m _ _ _ _ _ _ (pre· .0) (role-due· .ensures) z (omega (arith, pre·)) (finish· .ensures .0 l o m k)) (omega (arith, pre·)) _ _ (if1· .taken) (opened· .ensures) (put-mark· .ensures l k), pre· .3 ∙ row-control _ (if1· .taken) ∙ ap (λ (x : Command). rowOf (x .opcode)) (sym (opened· .ensures)), omega (arith, finish· .ensures .1))
+    (λ l o m k z. next-control _ _ o _ l m _ _ _ _ _ (closed _ _ o _ l m _ _ _ _ _ _ (pre· .0) (role-due· .ensures) z (omega (arith, pre·)) (finish· .ensures .0 l o m k)) (omega (arith, pre·)) _ _ (if1· .taken) (new-command· .ensures) (put-mark· .ensures l k), pre· .3 ∙ row-control _ (if1· .taken) ∙ ap (λ (x : Command). rowOf (x .opcode)) (sym (new-command· .ensures)), omega (arith, finish· .ensures .1))
 
-opened-requires-2 : tie.Need-opened-requires-2
-opened-requires-2 c κs = search needs
+new-command-requires-2 : tie.Need-new-command-requires-2
+new-command-requires-2 c κs = search needs
 
 put-mark-requires-2 : tie.Need-put-mark-requires-2
 put-mark-requires-2 c κs =
@@ -71,10 +71,10 @@ returns-2 c =
     let role-due· = c .before .before .before .before .before .before .before .before .before .before .before .before .before .role-due in
     let finish· = c .before .before .before .before .before .before .before .before .before .before .before .finish in
     let if1· = c .before .before .before .before .before .before .before .if1 in
-    let opened2· = c .before .before .before .before .before .before .opened2 in
+    let new-command2· = c .before .before .before .before .before .before .new-command2 in
     let if2· = c .before .before .before .before .if2 in
     let put-mark2· = c .before .before .put-mark2 in
-    (λ l o m k z. next-marked _ _ o _ l m _ _ _ _ _ (closed _ _ o _ l m _ _ _ _ _ _ (pre· .0) (role-due· .ensures) z (omega (arith, pre·)) (finish· .ensures .0 l o m k)) (omega (arith, pre·)) _ _ (if1· .left) (opened2· .ensures) (pre· .3) _ (if2· .taken) (put-mark2· .ensures l k), pre· .3 ∙ ap (λ (x : Command). rowOf (x .opcode)) (sym (opened2· .ensures)), omega (arith, finish· .ensures .1))
+    (λ l o m k z. next-marked _ _ o _ l m _ _ _ _ _ (closed _ _ o _ l m _ _ _ _ _ _ (pre· .0) (role-due· .ensures) z (omega (arith, pre·)) (finish· .ensures .0 l o m k)) (omega (arith, pre·)) _ _ (if1· .left) (new-command2· .ensures) (pre· .3) _ (if2· .taken) (put-mark2· .ensures l k), pre· .3 ∙ ap (λ (x : Command). rowOf (x .opcode)) (sym (new-command2· .ensures)), omega (arith, finish· .ensures .1))
 
 same-length-3 : tie.Need-same-length-3
 same-length-3 c = search needs
@@ -85,9 +85,9 @@ returns-3 c =
     let role-due· = c .before .before .before .before .before .before .before .before .before .role-due in
     let finish· = c .before .before .before .before .before .before .before .finish in
     let if1· = c .before .before .before .if1 in
-    let opened2· = c .before .before .opened2 in
+    let new-command2· = c .before .before .new-command2 in
     let if2· = c .if2 in
-    (λ l o m k z. next-plain _ _ o _ l m _ _ _ _ _ (closed _ _ o _ l m _ _ _ _ _ _ (pre· .0) (role-due· .ensures) z (omega (arith, pre·)) (finish· .ensures .0 l o m k)) (omega (arith, pre·)) _ _ (if1· .left) (opened2· .ensures) (pre· .3) (if2· .left), pre· .3 ∙ ap (λ (x : Command). rowOf (x .opcode)) (sym (opened2· .ensures)), omega (arith, finish· .ensures .1))
+    (λ l o m k z. next-plain _ _ o _ l m _ _ _ _ _ (closed _ _ o _ l m _ _ _ _ _ _ (pre· .0) (role-due· .ensures) z (omega (arith, pre·)) (finish· .ensures .0 l o m k)) (omega (arith, pre·)) _ _ (if1· .left) (new-command2· .ensures) (pre· .3) (if2· .left), pre· .3 ∙ ap (λ (x : Command). rowOf (x .opcode)) (sym (new-command2· .ensures)), omega (arith, finish· .ensures .1))
 
 pub open-next-spec : {M : Type 1} → statement M
 open-next-spec =
@@ -97,10 +97,10 @@ open-next-spec =
     finish-requires
     put-mark-requires
     add-t21
-    opened-requires
+    new-command-requires
     same-length
     returns
-    opened-requires-2
+    new-command-requires-2
     put-mark-requires-2
     add-t27
     same-length-2

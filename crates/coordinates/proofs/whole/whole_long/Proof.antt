@@ -33,11 +33,11 @@ returns c =
     let l = c .before .before .before .loop in
     long-cut (now (s .args .bytes)) (s .args .at) (s .args .n) (l .i) _ (s .pre .0) (c .before .before .loop-test .taken) refl (s .args .three) (c .if1 .taken)
 
-cast-join-byte : tie.Need-cast-join-byte Inv-loop μ-loop
-cast-join-byte c = search needs
+cast-gather-byte : tie.Need-cast-gather-byte Inv-loop μ-loop
+cast-gather-byte c = search needs
 
-join-byte-requires : tie.Need-join-byte-requires Inv-loop μ-loop
-join-byte-requires c κs = search needs
+gather-byte-requires : tie.Need-gather-byte-requires Inv-loop μ-loop
+gather-byte-requires c κs = search needs
 
 add-i : tie.Need-add-i Inv-loop μ-loop
 add-i c = search needs
@@ -51,7 +51,7 @@ loop-again c =
     let l = c .before .before .before .before .loop in
     let t = c .before .before .before .loop-test .taken in (
       search needs,
-      long-point (now (s .args .bytes)) (s .args .at) (s .args .n) (l .i) _ (s .pre .0) t refl (s .args .three) _ _ (c .join-byte .ensures) (l .inv .1),
+      long-point (now (s .args .bytes)) (s .args .at) (s .args .n) (l .i) _ (s .pre .0) t refl (s .args .three) _ _ (c .gather-byte .ensures) (l .inv .1),
       long-more (now (s .args .bytes)) (s .args .at) (s .args .n) (l .i) _ (s .pre .0) t refl (c .before .if1 .left) (l .inv .2),
     )
 
@@ -71,8 +71,8 @@ whole-long-spec =
     add-byte
     shared-slice-read-byte
     returns
-    cast-join-byte
-    join-byte-requires
+    cast-gather-byte
+    gather-byte-requires
     add-i
     loop-less
     loop-again

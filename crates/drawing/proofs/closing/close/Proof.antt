@@ -31,8 +31,8 @@ finish-requires c κs =
 resting-requires : tie.Need-resting-requires
 resting-requires c κs = search needs
 
-opened-requires : tie.Need-opened-requires
-opened-requires c κs = search needs
+new-command-requires : tie.Need-new-command-requires
+new-command-requires c κs = search needs
 
 no-record-requires : tie.Need-no-record-requires
 no-record-requires c κs = search needs
@@ -48,13 +48,13 @@ unfolding carry
 returns-2 c =
     let no-record· = c .no-record in
     let resting· = c .before .before .resting in
-    let opened· = c .before .opened in
+    let new-command· = c .before .new-command in
     let pre· = c .before .before .before .before .before .before .before .before .before .before .before .before .before .before .before .pre in
     let complete· = c .before .before .before .before .before .before .before .before .before .before .before .complete in
     let if1· = c .before .before .before .before .before .before .before .before .if1 in
     let role-due· = c .before .before .before .before .before .before .before .role-due in
     let finish· = c .before .before .before .before .before .finish in
-    (no-record· .ensures _ _ ∙ simp (resting· .ensures, opened· .ensures)) ∙ close-drawn _ _ _ _ _ (pre· .0) (complete· .ensures) _ _ (omega (arith, pre·)) (if1· .left) (role-due· .ensures) (finish· .ensures _)
+    (no-record· .ensures _ _ ∙ simp (resting· .ensures, new-command· .ensures)) ∙ close-drawn _ _ _ _ _ (pre· .0) (complete· .ensures) _ _ (omega (arith, pre·)) (if1· .left) (role-due· .ensures) (finish· .ensures _)
 
 pub close-spec : {M : Type 1} → statement M
 close-spec =
@@ -66,7 +66,7 @@ close-spec =
     role-due-requires
     finish-requires
     resting-requires
-    opened-requires
+    new-command-requires
     no-record-requires
     same-length-2
     returns-2)

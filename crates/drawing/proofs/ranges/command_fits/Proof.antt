@@ -1,4 +1,3 @@
-use mathlib.Core.Path.{refl}
 use Rattle.rules.specs.Ranges.{commandFits}
 use Rattle.drawing.proofs.RangeLaws.{and-first, and-second}
 use borrow.Author.Needs.{needs}
@@ -8,13 +7,16 @@ use Rattle.drawing.proofs.ranges.command_fits.Tie as tie
 opcode-fits-requires : tie.Need-opcode-fits-requires
 opcode-fits-requires c κs = search needs
 
+vertices-fit-requires : tie.Need-vertices-fit-requires
+vertices-fit-requires c κs = search needs
+
 returns : tie.Need-returns
 unfolding commandFits
-returns c = and-second (c .before .before .opcode-fits .ensures) (c .before .if1 .taken) refl
+returns c = and-second (c .before .before .opcode-fits .ensures) (c .before .if1 .taken) (c .vertices-fit .ensures)
 
 returns-2 : tie.Need-returns-2
 unfolding commandFits
 returns-2 c = and-first _ (c .before .opcode-fits .ensures) (c .if1 .left)
 
 pub command-fits-spec : {M : Type 1} → statement M
-command-fits-spec = tie.close (tie.spec opcode-fits-requires returns returns-2)
+command-fits-spec = tie.close (tie.spec opcode-fits-requires vertices-fit-requires returns returns-2)

@@ -1,15 +1,31 @@
+use borrow.Author.Tests.{eq-eqb, ne-eqb}
+use Rattle.rules.specs.Ranges.{begunFits}
 use borrow.Author.Needs.{needs}
 use Rattle.drawing.proofs.ranges.operand_fits.Statement.{statement}
 use Rattle.drawing.proofs.ranges.operand_fits.Tie as tie
 
+returns : tie.Need-returns
+unfolding begunFits
+returns c = simp (eq-eqb _ _ (c .if1 .taken))
+
 row-of-requires : tie.Need-row-of-requires
 row-of-requires c κs = search needs
 
-operand-length-requires : tie.Need-operand-length-requires
-operand-length-requires c κs = search needs
+role-due-requires : tie.Need-role-due-requires
+role-due-requires c κs = search needs
 
-returns : tie.Need-returns
-returns c = simp (c .before .operand-length .ensures, c .before .before .row-of .ensures)
+length-of-requires : tie.Need-length-of-requires
+length-of-requires c κs = search needs
+
+returns-2 : tie.Need-returns-2
+unfolding begunFits
+returns-2 c =
+    let if1· = c .before .before .before .if1 in
+    let row-of· = c .before .before .row-of in
+    let role-due· = c .before .role-due in
+    let length-of· = c .length-of in
+    simp (ne-eqb _ _ (if1· .left), length-of· .ensures, role-due· .ensures, row-of· .ensures)
 
 pub operand-fits-spec : {M : Type 1} → statement M
-operand-fits-spec = tie.close (tie.spec row-of-requires operand-length-requires returns)
+operand-fits-spec =
+    tie.close (tie.spec returns row-of-requires role-due-requires length-of-requires returns-2)

@@ -3,6 +3,7 @@ use native.Mathlib.Omega.{arith}
 use borrow.Author.Needs.{needs}
 use borrow.Author.Tests.{eqb-true, ne-eqb}
 use Rattle.rules.proofs.Bools.{false-true}
+use Rattle.rules.specs.Store.{esc}
 use Rattle.idle.proofs.definitions.escape_then.Statement.{statement}
 use Rattle.idle.proofs.definitions.escape_then.Tie as tie
 
@@ -29,7 +30,7 @@ returns-2 c =
 returns-3 : tie.Need-returns-3
 returns-3 c =
     let if2· = c .if2 in
-    λ e. false-true (sym (ne-eqb _ 27 (if2· .left)) ∙ e)
+    λ e. false-true (sym (ne-eqb _ esc (if2· .left)) ∙ e)
 
 pub escape-then-spec : {M : Type 1} → statement M
 escape-then-spec =

@@ -1,5 +1,5 @@
 use borrow.Author.Tests.{ne-eqb, eq-eqb}
-use Rattle.rules.specs.Calls.{openPage, openAs, opened}
+use Rattle.rules.specs.Calls.{openPage, openAs, freshState}
 use Rattle.reader.proofs.Promising.{opens}
 use borrow.Author.Needs.{needs}
 use Rattle.reader.proofs.open.open.Statement.{statement}
@@ -22,7 +22,7 @@ same-length : tie.Need-same-length
 same-length c = search needs
 
 returns-2 : tie.Need-returns-2
-unfolding openPage openAs opened
+unfolding openPage openAs freshState
 returns-2 c = opens (simp (eq-eqb _ _ (c .before .before .before .before .before .if1 .left), c .fresh-session2 .ensures, c .before .before .before .initialise .ensures))
 
 pub open-spec : {M : Type 1} → statement M

@@ -7,6 +7,7 @@ use denote.Ref.{now}
 use borrow.Author.Needs.{needs}
 use borrow.Author.Tests.{not-false}
 use Rattle.rules.specs.Operands.{point}
+use Rattle.rules.specs.Reading.{roomForStep}
 use Rattle.coordinates.specs.Data.{allData}
 use Rattle.coordinates.proofs.WholeLaws.{three-told}
 use Rattle.runs.specs.Strokes.{Lines}
@@ -104,7 +105,7 @@ loop-again c =
     let place = args· .from + 3 * loop· .n in
     let h : place + 3 ≤ length bytes = omega (arith, loop-test· .taken, most-steps· .ensures .0, pre· .0, pre· .1) in
     let g = most-steps· .ensures .1 (loop· .n) (loop-test· .taken) in
-    let room : args· .at + 40 * loop· .n + 120 ≤ length (loop· .out) = omega (arith, g, loop· .inv .1, pre· .2) in
+    let room : args· .at + 40 * loop· .n + roomForStep ≤ length (loop· .out) = omega (arith, g, loop· .inv .1, pre· .2) in
     let told = three-told bytes place h (λ i. k .given i .fits) allData _ _ (are-data· .ensures) (three-bytes· .ensures) in
     let read = three-told bytes place h (λ i. k .given i .fits) (point false) _ _ (point-of-three· .ensures) (three-bytes· .ensures) in (
       omega arith,

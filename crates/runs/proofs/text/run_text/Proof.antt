@@ -54,8 +54,8 @@ add-t13 c =
 resting-requires : tie.Need-resting-requires
 resting-requires c κs = search needs
 
-opened-requires : tie.Need-opened-requires
-opened-requires c κs = search needs
+new-command-requires : tie.Need-new-command-requires
+new-command-requires c κs = search needs
 
 same-length-2 : tie.Need-same-length-2
 same-length-2 c = search needs
@@ -65,10 +65,10 @@ returns-2 c =
     let args· = c .before .before .before .before .before .before .before .before .before .before .args in
     let if1· = c .before .before .if1 in
     let resting· = c .before .resting in
-    let opened· = c .opened in
+    let new-command· = c .new-command in
     let put-characters· = c .before .before .before .before .before .put-characters in
     let most-steps· = c .before .before .before .before .before .before .before .most-steps in
-    (λ m. ran-some {y = standing (args· .pen) (args· .command) (args· .look) m (args· .at) (now (args· .out))} _ _ (args· .command) _ m _ _ (if1· .left) (resting· .ensures) (opened· .ensures) (put-characters· .ensures .0 m), omega (arith, most-steps· .ensures .0, put-characters· .ensures .1))
+    (λ m. ran-some {y = standing (args· .pen) (args· .command) (args· .look) m (args· .at) (now (args· .out))} _ _ (args· .command) _ m _ _ (if1· .left) (resting· .ensures) (new-command· .ensures) (put-characters· .ensures .0 m), omega (arith, most-steps· .ensures .0, put-characters· .ensures .1))
 
 pub run-text-spec : {M : Type 1} → statement M
 run-text-spec =
@@ -83,6 +83,6 @@ run-text-spec =
     mul-t12
     add-t13
     resting-requires
-    opened-requires
+    new-command-requires
     same-length-2
     returns-2)

@@ -2,6 +2,7 @@ use mathlib.Core.Path.{sym, ap, _∙_}
 use mathlib.Core.Bool.{not}
 use borrow.Author.Tests.{eq-eqb}
 use Rattle.rules.proofs.Bools.{false-true}
+use Rattle.rules.specs.Store.{esc}
 use borrow.Author.Needs.{needs}
 use Rattle.storing.proofs.filling.stores_at.Statement.{statement}
 use Rattle.storing.proofs.filling.stores_at.Tie as tie
@@ -21,7 +22,7 @@ returns-2 c = search needs
 returns-3 : tie.Need-returns-3
 returns-3 c =
     let if2· = c .if2 in
-    λ e. false-true (ap not (sym (eq-eqb _ 27 (if2· .left))) ∙ e)
+    λ e. false-true (ap not (sym (eq-eqb _ esc (if2· .left))) ∙ e)
 
 pub stores-at-spec : {M : Type 1} → statement M
 stores-at-spec =

@@ -2,6 +2,7 @@ use borrow.Author.Tests.{ne-eqb}
 use native.Mathlib.Omega.{arith}
 use Rattle.rules.specs.Coding.{innerOf}
 use Rattle.rules.proofs.Spans.{inside, under, over}
+use Rattle.rules.specs.Store.{esc}
 use Rattle.tables.proofs.escapes.inner_of.Statement.{statement}
 use Rattle.tables.proofs.escapes.inner_of.Tie as tie
 
@@ -29,14 +30,14 @@ unfolding innerOf
 below c =
     let b = c .before .before .args .b in
     let rest = c .before .match .rest in
-    simp (ne-eqb b 64 (rest .0 .0 .1), under 65 b 68 (omega arith), ne-eqb b 69 (rest .0 .1), ne-eqb b 27 (rest .1))
+    simp (ne-eqb b 64 (rest .0 .0 .1), under 65 b 68 (omega arith), ne-eqb b 69 (rest .0 .1), ne-eqb b esc (rest .1))
 
 above : tie.Need-returns-6
 unfolding innerOf
 above c =
     let b = c .before .before .before .args .b in
     let rest = c .before .before .match .rest in
-    simp (ne-eqb b 64 (rest .0 .0 .1), over 65 b 68 (omega arith), ne-eqb b 69 (rest .0 .1), ne-eqb b 27 (rest .1))
+    simp (ne-eqb b 64 (rest .0 .0 .1), over 65 b 68 (omega arith), ne-eqb b 69 (rest .0 .1), ne-eqb b esc (rest .1))
 
 pub inner-of-spec : {M : Type 1} → statement M
 inner-of-spec = tie.close (tie.spec opens-next ends-body starts-afresh bars below above)

@@ -5,8 +5,8 @@ use borrow.Author.Needs.{needs}
 use borrow.Author.Tests.{not-false}
 use Rattle.runs.specs.Run.{none}
 use Rattle.runs.proofs.StrokeLaws.{point-set-row, line-row}
-use Rattle.runs.proofs.strokes.run_strokes.Statement.{statement}
-use Rattle.runs.proofs.strokes.run_strokes.Tie as tie
+use Rattle.runs.proofs.strokes.draw_strokes.Statement.{statement}
+use Rattle.runs.proofs.strokes.draw_strokes.Tie as tie
 
 sub-if1 : tie.Need-sub-if1
 sub-if1 c = search needs
@@ -70,8 +70,8 @@ returns-5 c =
     let pre· = c .before .before .before .before .before .before .before .before .before .before .pre in
     (λ m. none, omega (arith, pre· .0))
 
-pub run-strokes-spec : {M : Type 1} → statement M
-run-strokes-spec =
+pub draw-strokes-spec : {M : Type 1} → statement M
+draw-strokes-spec =
     tie.close
     (tie.spec
     sub-if1

@@ -1,7 +1,7 @@
 use Rattle.coordinates.proofs.Operands.{join-two, join-three}
 use borrow.Author.Needs.{needs}
-use Rattle.coordinates.proofs.join_byte.Statement.{statement}
-use Rattle.coordinates.proofs.join_byte.Tie as tie
+use Rattle.coordinates.proofs.gather_byte.Statement.{statement}
+use Rattle.coordinates.proofs.gather_byte.Tie as tie
 
 mul-shift : tie.Need-mul-shift
 mul-shift c = search needs
@@ -39,8 +39,8 @@ returns-2 c =
     rw (c .before .before .if1 .left)
     (join-two (s .args .p) (c .before .put-bits3 .result) (c .put-bits4 .result) (s .args .i) (s .args .byte) (s .pre) (c .before .put-bits3 .ensures) (c .put-bits4 .ensures))
 
-pub join-byte-spec : {M : Type 1} → statement M
-join-byte-spec =
+pub gather-byte-spec : {M : Type 1} → statement M
+gather-byte-spec =
     tie.close
     (tie.spec
     mul-shift
