@@ -12,7 +12,7 @@ ghost use Prim.Native.Nat.{_-_, _≤_};
 ghost use Rattle.rules.specs.Coding.{setOf};
 
 // How far a run may go: to the end of its bytes, as far as the budget lasts.
-pub fn reach(from: usize, end: usize, budget: u32, steps: u32) -> usize
+fn reach(from: usize, end: usize, budget: u32, steps: u32) -> usize
     requires { ⌜ from ≤ end ⌝ }
     ensures { λ r. ⌜ (from ≤ r) × (r ≤ end) × (r - from ≤ budget - steps) ⌝ }
 {
@@ -26,7 +26,7 @@ pub fn reach(from: usize, end: usize, budget: u32, steps: u32) -> usize
     from + left
 }
 
-pub fn awaits_nothing(waiting: Waiting) -> bool
+fn awaits_nothing(waiting: Waiting) -> bool
     ensures { λ r. ⌜ (r ≡ true → waiting ≡ Waiting.Nothing) ⌝ }
 {
     if let Waiting::Nothing = waiting {
@@ -36,7 +36,7 @@ pub fn awaits_nothing(waiting: Waiting) -> bool
 }
 
 // The set that bytes are read from where nothing is waited for.
-pub fn set_read(progress: Progress) -> Set
+fn set_read(progress: Progress) -> Set
     ensures { λ r. ⌜ r ≡ setOf (progress .sets .used) (progress .sets) ⌝ }
 {
     let sets = progress.sets;

@@ -22,7 +22,7 @@ ghost use Prim.Native.Nat.{ℕ};
 ghost use Rattle.rules.specs.Coding.{control, graphic, classOf};
 ghost use Rattle.coding.specs.View.{codingOf, reactionOf, readFrom};
 
-pub fn control(k: Control, byte: u8) -> Reacted
+pub(crate) fn control(k: Control, byte: u8) -> Reacted
     ensures { λ r. ⌜ ((s : Sets) (f st : List ℕ) → reactionOf s r f st ≡ control k (codingOf s Waiting.Nothing f) st byte) ⌝ }
 {
     match k {
@@ -56,7 +56,7 @@ fn graphic(set: Set, byte: u8) -> Reacted
 }
 
 // A control drops the single shift.
-pub fn read_from(element: Element, sets: Sets, byte: u8) -> Reacted
+pub(crate) fn read_from(element: Element, sets: Sets, byte: u8) -> Reacted
     ensures { λ r. ⌜ ((w : Waiting) (f st : List ℕ) → reactionOf sets r f st ≡ readFrom element (classOf byte) (codingOf sets w f) st byte) ⌝ }
 {
     match class_of(byte) {

@@ -41,7 +41,7 @@ fn open_body(firsts: &mut [u8; 96], store: &mut [u8], name: u8) -> Reacted
     }
 }
 
-pub fn take_name(firsts: &mut [u8; 96], store: &mut [u8], byte: u8) -> Reacted
+pub(crate) fn take_name(firsts: &mut [u8; 96], store: &mut [u8], byte: u8) -> Reacted
     requires { ⌜ (Sized (now store)) × (byte ≤ 127) ⌝ }
     ensures reaction { λ r. ⌜ ((s : Sets) → reactionOf s r (now (firsts .exit)) (now (store .exit)) ≡ reactTo Waiting.Name (classOf byte) (codingOf s Waiting.Name (now (firsts .entry))) (now (store .entry)) byte) ⌝ }
     ensures kept { λ r. ⌜ (AsLent r (now (firsts .entry)) (now (firsts .exit))) × (AsLent r (now (store .entry)) (now (store .exit))) ⌝ }
@@ -74,7 +74,12 @@ fn keep_escape(answer: StoreAnswer) -> Reacted
     }
 }
 
-pub fn in_body(definition: Definition, firsts: &mut [u8; 96], store: &mut [u8], byte: u8) -> Reacted
+pub(crate) fn in_body(
+    definition: Definition,
+    firsts: &mut [u8; 96],
+    store: &mut [u8],
+    byte: u8,
+) -> Reacted
     requires { ⌜ (Sized (now store)) × (IsName (definition .name)) ⌝ }
     ensures reaction { λ r. ⌜ ((s : Sets) → reactionOf s r (now (firsts .exit)) (now (store .exit)) ≡ inBody (eqb byte esc) definition (codingOf s (Waiting.Body definition) (now (firsts .entry))) (now (store .entry)) byte) ⌝ }
     ensures kept { λ r. ⌜ (AsLent r (now (firsts .entry)) (now (firsts .exit))) × (AsLent r (now (store .entry)) (now (store .exit))) ⌝ }
@@ -86,7 +91,7 @@ pub fn in_body(definition: Definition, firsts: &mut [u8; 96], store: &mut [u8], 
 }
 
 // The byte after an ESC in a definition.
-pub fn in_body_escape(
+pub(crate) fn in_body_escape(
     definition: Definition,
     firsts: &mut [u8; 96],
     store: &mut [u8],

@@ -48,7 +48,7 @@ fn designation(designated: Designated, element: Element) -> Reacted
 }
 
 // The byte after ESC.
-pub fn in_escape(byte: u8) -> Reacted
+pub(crate) fn in_escape(byte: u8) -> Reacted
     ensures { λ r. ⌜ ((s : Sets) (f st : List ℕ) → reactionOf s r f st ≡ reactTo Waiting.Escape (classOf byte) (codingOf s Waiting.Escape f) st byte) ⌝ }
 {
     match class_of(byte) {
@@ -58,7 +58,7 @@ pub fn in_escape(byte: u8) -> Reacted
     }
 }
 
-pub fn in_designation(element: Element, byte: u8) -> Reacted
+pub(crate) fn in_designation(element: Element, byte: u8) -> Reacted
     ensures { λ r. ⌜ ((s : Sets) (f st : List ℕ) → reactionOf s r f st ≡ reactTo (Waiting.Designator element) (classOf byte) (codingOf s (Waiting.Designator element) f) st byte) ⌝ }
 {
     match class_of(byte) {
@@ -69,7 +69,7 @@ pub fn in_designation(element: Element, byte: u8) -> Reacted
 }
 
 // A longer sequence has no meaning; its end is looked for.
-pub fn in_longer(byte: u8) -> Reacted
+pub(crate) fn in_longer(byte: u8) -> Reacted
     ensures { λ r. ⌜ ((s : Sets) (f st : List ℕ) → reactionOf s r f st ≡ reactTo Waiting.Longer (classOf byte) (codingOf s Waiting.Longer f) st byte) ⌝ }
 {
     match class_of(byte) {

@@ -38,7 +38,7 @@ pub fn sets_after(effect: Effect, sets: Sets) -> Sets
     }
 }
 
-pub fn refuse(refusal: Refusal) -> Reacted
+pub(crate) fn refuse(refusal: Refusal) -> Reacted
     ensures { λ r. ⌜ ((s : Sets) (f st : List ℕ) → reactionOf s r f st ≡ Refuse refusal) ⌝ }
 {
     Reacted {
@@ -48,7 +48,7 @@ pub fn refuse(refusal: Refusal) -> Reacted
 }
 
 // Asks nothing of drawing. A definition may have changed first cells and store.
-pub fn wait_for(waiting: Waiting) -> Reacted
+pub(crate) fn wait_for(waiting: Waiting) -> Reacted
     ensures reaction { λ r. ⌜ ((s : Sets) (f st : List ℕ) → reactionOf s r f st ≡ React (codingOf s waiting f) st Action.Idle) ⌝ }
     ensures kept { λ r. ⌜ ((lent left : List ℕ) → AsLent r lent left) ⌝ }
 {
@@ -58,7 +58,7 @@ pub fn wait_for(waiting: Waiting) -> Reacted
     }
 }
 
-pub fn act(action: Action) -> Reacted
+pub(crate) fn act(action: Action) -> Reacted
     ensures { λ r. ⌜ ((s : Sets) (f st : List ℕ) → reactionOf s r f st ≡ React (codingOf s Waiting.Nothing f) st action) ⌝ }
 {
     Reacted {
@@ -67,7 +67,7 @@ pub fn act(action: Action) -> Reacted
     }
 }
 
-pub fn call(name: u8) -> Reacted
+pub(crate) fn call(name: u8) -> Reacted
     ensures { λ r. ⌜ ((s : Sets) (f st : List ℕ) → reactionOf s r f st ≡ Call (codingOf s Waiting.Nothing f) name) ⌝ }
 {
     Reacted {
@@ -76,7 +76,7 @@ pub fn call(name: u8) -> Reacted
     }
 }
 
-pub fn use_element(element: Element) -> Reacted
+pub(crate) fn use_element(element: Element) -> Reacted
     ensures { λ r. ⌜ ((s : Sets) (f st : List ℕ) → reactionOf s r f st ≡ React (codingOf (inUse element s) Waiting.Nothing f) st Action.Idle) ⌝ }
 {
     Reacted {
@@ -85,7 +85,7 @@ pub fn use_element(element: Element) -> Reacted
     }
 }
 
-pub fn designate_set(element: Element, set: Set) -> Reacted
+pub(crate) fn designate_set(element: Element, set: Set) -> Reacted
     ensures { λ r. ⌜ ((s : Sets) (f st : List ℕ) → reactionOf s r f st ≡ React (codingOf (designate element set s) Waiting.Nothing f) st Action.Idle) ⌝ }
 {
     Reacted {

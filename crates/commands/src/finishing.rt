@@ -42,7 +42,7 @@ pub struct Opened {
     pub row: Row,
 }
 
-pub fn is_foreground(role: Role) -> bool
+pub(crate) fn is_foreground(role: Role) -> bool
     ensures { λ r. ⌜ r ≡ isForeground role ⌝ }
 {
     match role {
@@ -113,7 +113,7 @@ fn put_mark(ink: Head, kind: u8, code: u8, p: Point, pel: Point, out: &mut [u8],
 }
 
 // A control or an opcode closes the command that the row is of; an opcode opens another, which has the next row.
-pub fn open_next(
+pub(crate) fn open_next(
     byte: u8,
     next: Row,
     row: Row,

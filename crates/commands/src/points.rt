@@ -12,7 +12,7 @@ ghost use Rattle.coordinates.specs.Data.{wholeOf};
 ghost use Rattle.commands.specs.Tracing.{isPoint};
 
 // The point at a place, where it can be traced and its bytes have come.
-pub fn point_due(
+pub(crate) fn point_due(
     role: Role,
     vertices: u16,
     n: usize,

@@ -34,7 +34,7 @@ pub struct Traced {
 }
 
 // Whether a point of this role can be traced: one that would be refused is not.
-pub fn is_point(role: Role, vertices: u16) -> bool
+pub(crate) fn is_point(role: Role, vertices: u16) -> bool
     ensures { λ r. ⌜ r ≡ isPoint role vertices ⌝ }
 {
     match role {
@@ -79,7 +79,7 @@ fn target(role: Role, p: Point, v: Point) -> Displaced
     }
 }
 
-pub fn put_figure(
+pub(crate) fn put_figure(
     ink: Head,
     kind: u8,
     flags: u8,
@@ -167,7 +167,7 @@ fn with_middle(command: Command, start: Point, middle: Point, wrapped: bool) -> 
 }
 
 // The arc by the start and the middle that the command keeps.
-pub fn put_arc(
+pub(crate) fn put_arc(
     filled: bool,
     wrapped: bool,
     q: Point,
@@ -233,7 +233,7 @@ fn edge(
 }
 
 // A point v read as an operand of a role, at the drawing point p.
-pub fn trace(
+pub(crate) fn trace(
     role: Role,
     row: Row,
     v: Point,

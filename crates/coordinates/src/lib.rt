@@ -41,7 +41,7 @@ fn leaves_range(a: u32, b: u32, sum: u32) -> bool
     a / NEGATIVE == b / NEGATIVE && sum / NEGATIVE != a / NEGATIVE
 }
 
-pub fn add(a: u32, b: u32) -> Sum
+fn add(a: u32, b: u32) -> Sum
     ensures { λ r. ⌜ (r .value ≡ wrappedSum a b) × (r .outside ≡ leavesRange a b) ⌝ }
 {
     let value = std::num::wrapping_add_u32(a, b);
@@ -71,7 +71,7 @@ fn put_bits(top: u32, bits: u32, shift: u32) -> u32
 }
 
 // The point of an operand with one more byte, after i bytes.
-pub fn gather_byte(p: Point, three: bool, i: u32, byte: u8) -> Point
+fn gather_byte(p: Point, three: bool, i: u32, byte: u8) -> Point
     requires { ⌜ i < 8 ⌝ }
     ensures { λ r. ⌜ r ≡ joined three i byte p ⌝ }
 {
@@ -89,7 +89,7 @@ pub fn gather_byte(p: Point, three: bool, i: u32, byte: u8) -> Point
     }
 }
 
-pub fn read_point(bytes: &[u8], three: bool) -> Point
+fn read_point(bytes: &[u8], three: bool) -> Point
     requires { ⌜ length (now bytes) ≤ 8 ⌝ }
     ensures { λ r. ⌜ r ≡ point three (now (bytes .entry)) ⌝ }
 {

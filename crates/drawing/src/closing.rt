@@ -94,7 +94,7 @@ pub fn new_command(opcode: u8, point: Point) -> Command
 }
 
 // Closes the command that the row is of. Only its begun operand can be refused, before anything is written.
-pub fn close(
+pub(crate) fn close(
     row: Row,
     pen: Pen,
     command: Command,

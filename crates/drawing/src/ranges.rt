@@ -23,13 +23,13 @@ fn within(low: u8, n: u8, high: u8) -> bool
     low <= n && n <= high
 }
 
-pub fn domain_fits(d: Domain) -> bool
+fn domain_fits(d: Domain) -> bool
     ensures { λ r. ⌜ r ≡ domainFits d ⌝ }
 {
     within(1, d.single, 4) && within(1, d.multi, 8)
 }
 
-pub fn colour_fits(c: Colour) -> bool
+fn colour_fits(c: Colour) -> bool
     ensures { λ r. ⌜ r ≡ colourFits c ⌝ }
 {
     c.foreground <= 15 && c.background <= 15
@@ -48,7 +48,7 @@ fn vertices_fit(vertices: u16) -> bool
     1 <= vertices && vertices <= MOST_VERTICES
 }
 
-pub fn command_fits(c: Command) -> bool
+fn command_fits(c: Command) -> bool
     ensures { λ r. ⌜ r ≡ commandFits c ⌝ }
 {
     opcode_fits(c.opcode) && vertices_fit(c.vertices)

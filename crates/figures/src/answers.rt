@@ -14,7 +14,7 @@ ghost use Rattle.rules.specs.Drawing.{Draw};
 ghost use Rattle.figures.specs.Carried.{movedTo, DrawsBy, ChangesBy};
 
 // The drawing point elsewhere, a begun operand kept.
-pub fn moved(pen: Pen, point: Point) -> Pen
+pub(crate) fn moved(pen: Pen, point: Point) -> Pen
     ensures { λ r. ⌜ r ≡ movedTo point pen ⌝ }
 {
     let operand = pen.operand;

@@ -18,7 +18,7 @@ ghost use Rattle.rules.specs.Operands.{displaced, displacedOut};
 ghost use Rattle.rules.specs.Drawing.{arcMiddle, arcTo};
 ghost use Rattle.figures.specs.Carried.{DrawsBy, ChangesBy};
 
-pub fn arc_middle(v: Point, pen: Pen, command: Command, look: Look, at: usize) -> Drawn
+pub(crate) fn arc_middle(v: Point, pen: Pen, command: Command, look: Look, at: usize) -> Drawn
     ensures { λ r. ⌜ ChangesBy (arcMiddle v) pen command look at r ⌝ }
 {
     let p = pen.point;
@@ -57,7 +57,7 @@ pub fn arc_to(
     one_record(record, moved(pen, q), command, look, out, at)
 }
 
-pub fn arc_by(
+pub(crate) fn arc_by(
     filled: bool,
     v: Point,
     pen: Pen,

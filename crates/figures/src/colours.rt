@@ -21,7 +21,7 @@ ghost use Rattle.rules.specs.Operands.{greenBits, redBits, blueBits, bitsOf, fr
 ghost use Rattle.rules.specs.Drawing.{Draw, withColour, withForeground, withBackground, mapAt, shadeMap, shadeTo};
 ghost use Rattle.figures.specs.Carried.{carryOut, drawingOf, carriedOf, ChangesBy};
 
-pub fn set_foreground(pen: Pen, command: Command, look: Look, at: usize) -> Drawn
+pub(crate) fn set_foreground(pen: Pen, command: Command, look: Look, at: usize) -> Drawn
     ensures { λ r. ⌜ ChangesBy (λ d. Draw (withColour (withForeground (address (begun (pen .operand))) (d .look .colour)) d) []) pen command look at r ⌝ }
 {
     let operand = pen.operand;
@@ -39,7 +39,7 @@ pub fn set_foreground(pen: Pen, command: Command, look: Look, at: usize) -> Draw
     no_record(pen, command, look, at)
 }
 
-pub fn set_background(pen: Pen, command: Command, look: Look, at: usize) -> Drawn
+pub(crate) fn set_background(pen: Pen, command: Command, look: Look, at: usize) -> Drawn
     ensures { λ r. ⌜ ChangesBy (λ d. Draw (withColour (withBackground (address (begun (pen .operand))) (d .look .colour)) d) []) pen command look at r ⌝ }
 {
     let operand = pen.operand;
@@ -128,7 +128,7 @@ fn shade_to(
     }
 }
 
-pub fn set_shade(
+pub(crate) fn set_shade(
     pen: Pen,
     command: Command,
     look: Look,

@@ -13,7 +13,7 @@ ghost use Rattle.rules.specs.Operands.{begun};
 ghost use Rattle.rules.specs.Drawing.{Draw, withDomain, withPel, domainOf};
 ghost use Rattle.figures.specs.Carried.{ChangesBy};
 
-pub fn set_lengths(pen: Pen, command: Command, look: Look, at: usize) -> Drawn
+pub(crate) fn set_lengths(pen: Pen, command: Command, look: Look, at: usize) -> Drawn
     ensures { λ r. ⌜ ChangesBy (λ d. Draw (withDomain (domainOf (getD (begun (pen .operand)) 0 0) (d .look .domain .pel)) d) []) pen command look at r ⌝ }
 {
     let operand = pen.operand;
@@ -25,7 +25,7 @@ pub fn set_lengths(pen: Pen, command: Command, look: Look, at: usize) -> Drawn
     no_record(pen, command, look, at)
 }
 
-pub fn set_pel(pel: Point, pen: Pen, command: Command, look: Look, at: usize) -> Drawn
+pub(crate) fn set_pel(pel: Point, pen: Pen, command: Command, look: Look, at: usize) -> Drawn
     ensures { λ r. ⌜ ChangesBy (λ d. Draw (withDomain (withPel pel (d .look .domain)) d) []) pen command look at r ⌝ }
 {
     let mut domain = look.domain;

@@ -20,7 +20,7 @@ ghost use Rattle.rules.specs.Operands.{displaced, displacedOut};
 ghost use Rattle.rules.specs.Drawing.{Draw, withPoint, drawFigure};
 ghost use Rattle.figures.specs.Carried.{DrawsBy, ChangesBy};
 
-pub fn move_to(q: Point, pen: Pen, command: Command, look: Look, at: usize) -> Drawn
+pub(crate) fn move_to(q: Point, pen: Pen, command: Command, look: Look, at: usize) -> Drawn
     ensures { λ r. ⌜ ChangesBy (λ d. Draw (withPoint q d) []) pen command look at r ⌝ }
 {
     no_record(moved(pen, q), command, look, at)
@@ -59,7 +59,7 @@ fn draw_figure(
     no_record(moved(pen, q), command, look, at)
 }
 
-pub fn draw_to(
+pub(crate) fn draw_to(
     row: Row,
     q: Point,
     pen: Pen,
@@ -74,7 +74,7 @@ pub fn draw_to(
     draw_figure(row.kind, row.filled, false, q, pen, command, look, out, at)
 }
 
-pub fn draw_by(
+pub(crate) fn draw_by(
     row: Row,
     v: Point,
     pen: Pen,

@@ -18,7 +18,7 @@ ghost use lib.ListN.{length};
 ghost use Rattle.rules.specs.Drawing.{Draw, withPoint, withCommand, withStart, edgeBy, closingEdge};
 ghost use Rattle.figures.specs.Carried.{DrawsBy, ChangesBy};
 
-pub fn start_at(p: Point, pen: Pen, command: Command, look: Look, at: usize) -> Drawn
+pub(crate) fn start_at(p: Point, pen: Pen, command: Command, look: Look, at: usize) -> Drawn
     ensures { λ r. ⌜ ChangesBy (λ d. Draw (withPoint p (withCommand (withStart p (d .command .middle) (d .command .wrapped) (d .command)) d)) []) pen command look at r ⌝ }
 {
     let mut begun = command;
@@ -26,7 +26,7 @@ pub fn start_at(p: Point, pen: Pen, command: Command, look: Look, at: usize) -> 
     no_record(moved(pen, p), begun, look, at)
 }
 
-pub fn edge_by(
+pub(crate) fn edge_by(
     filled: bool,
     v: Point,
     pen: Pen,

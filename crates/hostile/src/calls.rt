@@ -29,14 +29,14 @@ fn print_end() {
     io::write_all(STDOUT_FILENO, b"\n");
 }
 
-pub fn print_open(name: &[u8], answer: Answer) {
+pub(crate) fn print_open(name: &[u8], answer: Answer) {
     print_case(b"open", name);
     print_byte(number_of(answer));
     print_end();
 }
 
 // A feed with at most 120 bytes of output.
-pub fn feed_within(
+pub(crate) fn feed_within(
     name: &[u8],
     session: Session,
     store: &mut [u8],
@@ -56,12 +56,12 @@ pub fn feed_within(
     session
 }
 
-pub fn feed_case(name: &[u8], session: Session, store: &mut [u8], piece: &[u8]) -> Session {
+pub(crate) fn feed_case(name: &[u8], session: Session, store: &mut [u8], piece: &[u8]) -> Session {
     feed_within(name, session, store, piece, 120)
 }
 
 // An end with at most 120 bytes of output.
-pub fn end_within(name: &[u8], session: Session, store: &[u8], room: isize) -> Session {
+pub(crate) fn end_within(name: &[u8], session: Session, store: &[u8], room: isize) -> Session {
     let mut out = [0u8; 120];
     let n = io::count(room, &out);
     let ended = end(session, store, &mut out[..n]);
@@ -74,11 +74,11 @@ pub fn end_within(name: &[u8], session: Session, store: &[u8], room: isize) -> S
     session
 }
 
-pub fn end_case(name: &[u8], session: Session, store: &[u8]) -> Session {
+pub(crate) fn end_case(name: &[u8], session: Session, store: &[u8]) -> Session {
     end_within(name, session, store, 120)
 }
 
-pub fn colour_case(name: &[u8], session: Session, address: u8) {
+pub(crate) fn colour_case(name: &[u8], session: Session, address: u8) {
     let shade = colour(session, address);
     let values = shade_values(shade);
     print_case(b"colour", name);

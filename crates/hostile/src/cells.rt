@@ -6,6 +6,7 @@ use crate::sessions::with_first;
 use crate::sessions::with_waiting;
 use reader::open::open;
 use rules::Definition;
+use rules::STORE_SIZE;
 use rules::Waiting;
 
 // A budget that ends the reading of a chain that loops.
@@ -24,7 +25,7 @@ fn set_cell(store: &mut [u8], cell: u8, next: u8, count: u8) {
 
 // Reads a body from a place of cell 1.
 fn read_case(name: &[u8], next: u8, count: u8, place: u8) {
-    let mut store = [0u8; 8192];
+    let mut store = [0u8; STORE_SIZE];
     let opened = open(&mut store, BUDGET);
     let session = opened.session;
     set_cell(&mut store, 1, next, count);
@@ -33,7 +34,7 @@ fn read_case(name: &[u8], next: u8, count: u8, place: u8) {
 
 // Reads on from cell 1, which is read, to cell 2.
 fn move_case(name: &[u8], count: u8) {
-    let mut store = [0u8; 8192];
+    let mut store = [0u8; STORE_SIZE];
     let opened = open(&mut store, BUDGET);
     let session = opened.session;
     set_cell(&mut store, 1, 2, 1);
@@ -43,14 +44,14 @@ fn move_case(name: &[u8], count: u8) {
 }
 
 fn end_in_body(name: &[u8], next: u8, count: u8, place: u8) {
-    let mut store = [0u8; 8192];
+    let mut store = [0u8; STORE_SIZE];
     let opened = open(&mut store, BUDGET);
     let session = opened.session;
     set_cell(&mut store, 1, next, count);
     end_case(name, with_body(session, 1, place), &store);
 }
 
-pub fn reading() {
+pub(crate) fn reading() {
     read_case(b"read-count-0", 2, 0, 0);
     read_case(b"read-count-31", 0, 31, 0);
     read_case(b"read-count-255", 0, 255, 0);
@@ -69,7 +70,7 @@ pub fn reading() {
 
 // Frees the body of 2/1, which starts in cell 1 and goes on in cell 2.
 fn free_case(name: &[u8], first: u8, count: u8, second: u8) {
-    let mut store = [0u8; 8192];
+    let mut store = [0u8; STORE_SIZE];
     let opened = open(&mut store, BUDGET);
     let session = opened.session;
     set_cell(&mut store, 1, first, count);
@@ -78,7 +79,7 @@ fn free_case(name: &[u8], first: u8, count: u8, second: u8) {
     feed_case(name, stopped, &mut store, b"");
 }
 
-pub fn freeing() {
+pub(crate) fn freeing() {
     free_case(b"free-loop-of-one", 1, 1, 0);
     free_case(b"free-loop-of-two", 2, 1, 1);
     free_case(b"free-loop-behind", 2, 1, 2);
@@ -90,7 +91,7 @@ pub fn freeing() {
 
 // Stores bytes in a definition whose last cell is cell 1.
 fn fill_case(name: &[u8], free: u8, count: u8, piece: &[u8]) {
-    let mut store = [0u8; 8192];
+    let mut store = [0u8; STORE_SIZE];
     let opened = open(&mut store, BUDGET);
     let session = opened.session;
     set_cell(&mut store, 0, free, 0);
@@ -112,7 +113,7 @@ fn fill_case(name: &[u8], free: u8, count: u8, piece: &[u8]) {
 
 // Defines a body where the free chain leads from cell 1 to cell 1.
 fn free_chain_loop() {
-    let mut store = [0u8; 8192];
+    let mut store = [0u8; STORE_SIZE];
     let opened = open(&mut store, u32::MAX);
     let session = opened.session;
     set_cell(&mut store, 1, 1, 0);
@@ -126,7 +127,7 @@ fn free_chain_loop() {
     );
 }
 
-pub fn filling() {
+pub(crate) fn filling() {
     fill_case(b"fill-count-0", 2, 0, b"z");
     fill_case(b"fill-count-31", 2, 31, b"z");
     fill_case(b"fill-count-255", 2, 255, b"z");

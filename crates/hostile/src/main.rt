@@ -14,6 +14,7 @@ use calls::print_open;
 use reader::end::end;
 use reader::open::open;
 use rules::Definition;
+use rules::STORE_SIZE;
 use rules::Session;
 use rules::Waiting;
 use sessions::with_addresses;
@@ -26,18 +27,20 @@ use sessions::with_places;
 use sessions::with_steps;
 use sessions::with_waiting;
 
+const DOMAIN: u8 = 33;
+
 const POINT_SET: u8 = 36;
 
 const SELECT_COLOUR: u8 = 62;
 
 fn fresh() -> Session {
-    let mut store = [0u8; 8192];
+    let mut store = [0u8; STORE_SIZE];
     let opened = open(&mut store, u32::MAX);
     opened.session
 }
 
 fn ended() -> Session {
-    let mut store = [0u8; 8192];
+    let mut store = [0u8; STORE_SIZE];
     let opened = open(&mut store, u32::MAX);
     let session = opened.session;
     let mut out = [0u8; 120];
@@ -46,7 +49,7 @@ fn ended() -> Session {
 }
 
 fn feed_stopped(name: &[u8], session: Session) {
-    let mut store = [0u8; 8192];
+    let mut store = [0u8; STORE_SIZE];
     open(&mut store, u32::MAX);
     feed_case(name, session, &mut store, b"A");
 }
@@ -75,7 +78,7 @@ fn stores() {
 }
 
 fn both(name: &[u8], session: Session) {
-    let mut store = [0u8; 8192];
+    let mut store = [0u8; STORE_SIZE];
     open(&mut store, u32::MAX);
     feed_case(name, session, &mut store, b"A");
     end_case(name, session, &store);
@@ -88,12 +91,14 @@ fn drawing_fields(session: Session) {
     both(b"multi-9", with_lengths(session, 1, 9));
     both(b"foreground-16", with_addresses(session, 16, 0));
     both(b"background-16", with_addresses(session, 0, 16));
+    both(b"vertices-0", with_command(session, 0, 0));
     both(b"vertices-257", with_command(session, 0, 257));
-    both(b"opcode-1", with_command(session, 1, 0));
-    both(b"opcode-31", with_command(session, 31, 0));
-    both(b"opcode-64", with_command(session, 64, 0));
+    both(b"opcode-1", with_command(session, 1, 1));
+    both(b"opcode-31", with_command(session, 31, 1));
+    both(b"opcode-64", with_command(session, 64, 1));
     both(b"operand-3-of-3", with_operand(session, POINT_SET, 3));
     both(b"operand-1-of-1", with_operand(session, SELECT_COLOUR, 1));
+    both(b"operand-2-of-domain", with_operand(session, DOMAIN, 2));
 }
 
 fn name_case(name: &[u8], session: Session, defined: u8) {
@@ -114,7 +119,7 @@ fn other_fields(session: Session) {
 }
 
 fn steps_over_budget(session: Session) {
-    let mut store = [0u8; 8192];
+    let mut store = [0u8; STORE_SIZE];
     open(&mut store, u32::MAX);
     feed_case(
         b"steps-over-budget",
@@ -125,7 +130,7 @@ fn steps_over_budget(session: Session) {
 }
 
 fn buffer_case(name: &[u8], session: Session, room: isize) {
-    let mut store = [0u8; 8192];
+    let mut store = [0u8; STORE_SIZE];
     open(&mut store, u32::MAX);
     feed_within(name, session, &mut store, b"A", room);
     feed_within(name, session, &mut store, b"", room);
@@ -141,7 +146,7 @@ fn buffers(session: Session) {
 }
 
 fn after(session: Session) {
-    let mut store = [0u8; 8192];
+    let mut store = [0u8; STORE_SIZE];
     open(&mut store, u32::MAX);
     let ended = end_case(b"page", session, &store);
     feed_case(b"after-end", ended, &mut store, b"A");
@@ -159,7 +164,7 @@ fn colours(session: Session) {
 }
 
 fn main() {
-    let mut store = [0u8; 8192];
+    let mut store = [0u8; STORE_SIZE];
     let opened = open(&mut store, 5);
     let session = opened.session;
     stores();

@@ -3,21 +3,21 @@ use rules::Coding;
 use rules::Session;
 use rules::Waiting;
 
-pub fn with_lengths(session: Session, single: u8, multi: u8) -> Session {
+pub(crate) fn with_lengths(session: Session, single: u8, multi: u8) -> Session {
     let mut session = session;
     session.drawing.look.domain.single = single;
     session.drawing.look.domain.multi = multi;
     session
 }
 
-pub fn with_addresses(session: Session, foreground: u8, background: u8) -> Session {
+pub(crate) fn with_addresses(session: Session, foreground: u8, background: u8) -> Session {
     let mut session = session;
     session.drawing.look.colour.foreground = foreground;
     session.drawing.look.colour.background = background;
     session
 }
 
-pub fn with_command(session: Session, opcode: u8, vertices: u16) -> Session {
+pub(crate) fn with_command(session: Session, opcode: u8, vertices: u16) -> Session {
     let mut session = session;
     session.drawing.command.opcode = opcode;
     session.drawing.command.vertices = vertices;
@@ -25,20 +25,20 @@ pub fn with_command(session: Session, opcode: u8, vertices: u16) -> Session {
 }
 
 // An open command with bytes of an operand begun.
-pub fn with_operand(session: Session, opcode: u8, count: u8) -> Session {
+pub(crate) fn with_operand(session: Session, opcode: u8, count: u8) -> Session {
     let mut session = session;
     session.drawing.command.opcode = opcode;
     session.drawing.pen.operand.count = count;
     session
 }
 
-pub fn with_depth(session: Session, depth: u8) -> Session {
+pub(crate) fn with_depth(session: Session, depth: u8) -> Session {
     let mut session = session;
     session.bodies.depth = depth;
     session
 }
 
-pub fn with_places(session: Session, outermost: u8, innermost: u8) -> Session {
+pub(crate) fn with_places(session: Session, outermost: u8, innermost: u8) -> Session {
     let mut session = session;
     let mut bodies = session.bodies;
     bodies.places[0] = outermost;
@@ -48,7 +48,7 @@ pub fn with_places(session: Session, outermost: u8, innermost: u8) -> Session {
 }
 
 // One body running, in a cell of the store.
-pub fn with_body(session: Session, cell: u8, place: u8) -> Session {
+pub(crate) fn with_body(session: Session, cell: u8, place: u8) -> Session {
     let mut session = session;
     let mut bodies = session.bodies;
     bodies.depth = 1;
@@ -58,7 +58,7 @@ pub fn with_body(session: Session, cell: u8, place: u8) -> Session {
     session
 }
 
-pub fn with_waiting(session: Session, waiting: Waiting) -> Session {
+pub(crate) fn with_waiting(session: Session, waiting: Waiting) -> Session {
     let coding = session.coding;
     let sets = coding.sets;
     let firsts = coding.firsts;
@@ -73,7 +73,7 @@ pub fn with_waiting(session: Session, waiting: Waiting) -> Session {
 }
 
 // The first cell of the body of the name 2/1.
-pub fn with_first(session: Session, cell: u8) -> Session {
+pub(crate) fn with_first(session: Session, cell: u8) -> Session {
     let mut session = session;
     let mut coding = session.coding;
     coding.firsts[1] = cell;
@@ -82,7 +82,7 @@ pub fn with_first(session: Session, cell: u8) -> Session {
 }
 
 // The colour at the last address of the map.
-pub fn with_last_colour(session: Session, green: u8, red: u8, blue: u8) -> Session {
+pub(crate) fn with_last_colour(session: Session, green: u8, red: u8, blue: u8) -> Session {
     let mut session = session;
     let mut drawing = session.drawing;
     drawing.map[45] = green;
@@ -92,7 +92,7 @@ pub fn with_last_colour(session: Session, green: u8, red: u8, blue: u8) -> Sessi
     session
 }
 
-pub fn with_steps(session: Session, steps: u32) -> Session {
+pub(crate) fn with_steps(session: Session, steps: u32) -> Session {
     let mut session = session;
     session.steps = steps;
     session

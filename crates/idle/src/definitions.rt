@@ -87,7 +87,7 @@ fn run_body(
 }
 
 // Reads bytes that open, fill or end a definition. It may stop anywhere.
-pub fn run_definition(
+pub(crate) fn run_definition(
     waiting: Waiting,
     firsts: &mut [u8; 96],
     store: &mut [u8],

@@ -18,7 +18,7 @@ pub fn put(text: &mut [u8], at: usize, bytes: &[u8]) -> usize
     at + n
 }
 
-pub fn put_number(text: &mut [u8], at: usize, n: u32) -> usize
+fn put_number(text: &mut [u8], at: usize, n: u32) -> usize
     requires { ⌜ at + 10 ≤ length (now text) ⌝ }
     ensures { λ r. ⌜ Put at (decimal n) (now (text .entry)) (now (text .exit)) r ⌝ }
     ensures { λ r. ⌜ r ≤ at + 10 ⌝ }

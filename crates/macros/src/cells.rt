@@ -50,14 +50,14 @@ pub fn good_count(count: u8) -> bool
 }
 
 // Where a body byte lies in the store.
-pub fn place_in_store(cell: u8, place: u8) -> usize
+pub(crate) fn place_in_store(cell: u8, place: u8) -> usize
     requires { ⌜ place ≤ mostBytes ⌝ }
     ensures { λ r. ⌜ r ≡ 32 * cell + 2 + place ⌝ }
 {
     CELL_SIZE * (cell as usize) + 2 + (place as usize)
 }
 
-pub fn body_byte(store: &[u8], cell: u8, place: u8) -> u8
+pub(crate) fn body_byte(store: &[u8], cell: u8, place: u8) -> u8
     requires { ⌜ (Sized (now store)) × (place < mostBytes) ⌝ }
     ensures { λ r. ⌜ r ≡ bodyByte (now (store .entry)) cell place ⌝ }
 {

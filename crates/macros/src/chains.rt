@@ -13,7 +13,7 @@ pub enum FreeAnswer {
     Refused(Refusal),
 }
 
-pub fn last_cell(store: &[u8], first: u8) -> Chain
+fn last_cell(store: &[u8], first: u8) -> Chain
     requires { ⌜ Sized (now store) ⌝ }
     ensures { λ r. ⌜ r ≡ lastCell 255 (now (store .entry)) first ⌝ }
 {

@@ -5,7 +5,7 @@ ghost use lib.ListN.{length};
 ghost use Rattle.rules.specs.Calls.{unread};
 
 // Where a piece is unread from. A count over the piece's length leaves nothing.
-pub fn unread_from(piece: &[u8], consumed: usize) -> usize
+pub(crate) fn unread_from(piece: &[u8], consumed: usize) -> usize
     ensures { λ r. ⌜ r ≡ min consumed (length (now (piece .entry))) ⌝ }
 {
     if piece.len() <= consumed {

@@ -98,7 +98,7 @@ pub fn flags(filled: bool, wrapped: bool, closing: bool) -> u8
     flag(filled, 1) + (flag(wrapped, 2) + flag(closing, 4))
 }
 
-pub fn mode_number(mode: Mode) -> u8
+fn mode_number(mode: Mode) -> u8
     ensures { λ r. ⌜ r ≡ modeNumber mode ⌝ }
 {
     match mode {
@@ -154,7 +154,7 @@ fn ink_of(c: Colour) -> Ink
     }
 }
 
-pub fn record_of(
+fn record_of(
     look: Look,
     kind: u8,
     flags: u8,

@@ -17,7 +17,7 @@ pub struct Ran {
 }
 
 // How many steps of one record each can be taken before what is left ends, or the room for a step.
-pub fn most_steps(left: usize, room: usize) -> usize
+fn most_steps(left: usize, room: usize) -> usize
     ensures { λ r. ⌜ (r ≤ left) × ((n : ℕ) → n < r → 40 * n + roomForStep ≤ room) ⌝ }
 {
     if room < ROOM_FOR_STEP {

@@ -67,7 +67,7 @@ pub struct Turned {
 
 const NOWHERE: Cursor = Cursor { cell: 0, place: 0 };
 
-pub fn ends(progress: Progress, answer: Answer) -> Turned
+pub(crate) fn ends(progress: Progress, answer: Answer) -> Turned
     ensures { λ r. ⌜ r ≡ record { course = Course.Ends answer; progress = progress; cursor = record { cell = 0; place = 0 } } ⌝ }
 {
     Turned {
@@ -106,7 +106,7 @@ fn opens_inside(depth: u8, waiting: Waiting, byte: u8) -> bool
 }
 
 // The innermost body goes on at the cursor. Without a body there is none to keep.
-pub fn read_on(cells: &mut [u8; 8], places: &mut [u8; 8], depth: u8, cursor: Cursor)
+fn read_on(cells: &mut [u8; 8], places: &mut [u8; 8], depth: u8, cursor: Cursor)
     requires { ⌜ depth ≤ 8 ⌝ }
     ensures { λ _. ⌜ bodiesOf depth (now (cells .exit)) (now (places .exit)) ≡ readOn depth cursor (bodiesOf depth (now (cells .entry)) (now (places .entry))) ⌝ }
 {
@@ -199,7 +199,7 @@ fn ask(
 }
 
 // Interprets a byte. Only a definition writes to the store, and it asks nothing of drawing.
-pub fn interpret(
+pub(crate) fn interpret(
     progress: Progress,
     onward: Onward,
     byte: u8,
