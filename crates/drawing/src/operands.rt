@@ -117,12 +117,12 @@ pub(crate) fn data_byte(
     ensures { λ r. ⌜ carriedOf r (now (map .exit)) (now (out .exit)) ≡ carryOut (dataByte row byte) (drawingOf pen command look (now (map .entry))) at (now (out .entry)) ⌝ }
 {
     let role = role_due(row, command);
-    let length = length_of(role, look.domain);
-    if length == 0 {
+    let bytes_due = length_of(role, look.domain);
+    if bytes_due == 0 {
         return no_record(pen, command, look, at);
     }
     let longer = join_byte(pen, byte);
-    if longer.operand.count < length {
+    if longer.operand.count < bytes_due {
         return no_record(longer, command, look, at);
     }
     let done = apply_begun(row, longer, command, look, map, out, at);
