@@ -19,7 +19,7 @@ use Rattle.handing.specs.declared.Fed.{Fed}
 use Rattle.handing.specs.Handing.{stateLent, handedOf}
 use Rattle.reader.specs.Promises.{Feeds}
 use borrow.Rule.Slice.PartMut.{putMid, post-is}
-use Rattle.demands.specs.Cuts.{total, fedMore, fedAll, fedCuts, Undivided}
+use Rattle.demands.specs.Cuts.{total, lentOf, fedMore, fedAll, fedCuts, Undivided}
 
 -- Parts of lists
 
@@ -92,40 +92,6 @@ fed-join x page out lent edge h =
           output = e i;
         }
 
--- Of feed's promise, at what is unread of a page and a part of the output: its counts stay within the parts
-pub fed-counts : (w : State) (page out : List ℕ) (from lent at edge : ℕ) (r : Fed) (left part : List ℕ)
-    → Feeds w (unread (take lent page) from) (take (edge - at) (drop at out)) r left part
-    → (r .consumed ≤ lent - from) × (r .written ≤ edge - at)
-unfolding feed unread
-fed-counts w page out from lent at edge r left part f =
-    let k = feed-kept w (drop from (take lent page)) (length (take (edge - at) (drop at out))) in
-    let a = length-drop from (take lent page) in
-    let b = length-take lent page in
-    let c = length-take (edge - at) (drop at out) in
-    let s = k .consumed in
-    let t = k .written in
-    let m = ap (λ (h : Handed). h .consumed) (f .same) in
-    let n = ap (λ (h : Handed). h .written) (f .same) in
-    (omega arith, omega arith)
-
--- With the output's part back, it is one call more
-pub fed-more : (b : Fed) (st page out : List ℕ) (lent edge : ℕ) (r : Fed) (left part : List ℕ)
-    → Feeds (stateLent (b .session) st) (unread (take lent page) (b .consumed)) (take (edge - b .written) (drop (b .written) out)) r left part
-    → b .written ≤ edge
-    → handedOf (record { answer = r .answer; consumed = b .consumed + r .consumed; written = b .written + r .written; session = r .session }) left (putMid (b .written) (edge - b .written) out part)
-    ≡ fedMore (handedOf b st out) page lent edge
-fed-more b st page out lent edge r left part f h =
-    ap₂
-    (λ (g : Handed) (z : List ℕ).
-    record {
-      answer = g .answer;
-      state = g .state;
-      consumed = b .consumed + g .consumed;
-      written = b .written + g .written;
-      output = take (b .written) out ++ (g .output ++ z);
-    })
-    (f .same) (post-is (b .written) edge out h)
-
 -- What stands of the bounds after a call more
 record Within (lent edge : ℕ) (b h : Handed) : Type 0 where
   pub read : h .consumed ≤ lent
@@ -157,8 +123,34 @@ fed-within h page lent edge m n g =
       stored = k .stored;
     }
 
+-- Of feed's promise, lent what is unread of a page's first bytes and a part of the output
+module _ (b : Fed) (st page out : List ℕ) (lent edge : ℕ) (r : Fed) (left part : List ℕ)
+    (f : Feeds (stateLent (b .session) st) (unread (take lent page) (b .consumed)) (take (edge - b .written) (drop (b .written) out)) r left part) where
+  -- With the part back in the output, it is one call more
+  pub fed-more : b .written ≤ edge
+      → handedOf (record { answer = r .answer; consumed = b .consumed + r .consumed; written = b .written + r .written; session = r .session }) left (putMid (b .written) (edge - b .written) out part)
+      ≡ fedMore (handedOf b st out) page lent edge
+  fed-more h =
+      ap₂
+      (λ (g : Handed) (z : List ℕ).
+      record {
+        answer = g .answer;
+        state = g .state;
+        consumed = b .consumed + g .consumed;
+        written = b .written + g .written;
+        output = take (b .written) out ++ (g .output ++ z);
+      })
+      (f .same) (post-is (b .written) edge out h)
+
+  pub fed-counts : b .consumed ≤ lent → b .written ≤ edge → edge ≤ length out
+      → (b .consumed + r .consumed ≤ lent) × (b .written + r .written ≤ edge)
+  fed-counts m n g =
+      let h = handedOf b st out in
+      let k = subst (Within lent edge h) (sym (fed-more n)) (fed-within h page lent edge m n g) in
+      (k .read, k .written)
+
 -- What calls from w came to, the bytes of the page lent so far and the output they began with
-pub record Come (w : State) (page out : List ℕ) (lent : ℕ) (h : Handed) : Type 0 where
+record Come (w : State) (page out : List ℕ) (lent : ℕ) (h : Handed) : Type 0 where
   first : Lent
   others : List Lent
   bytes : lentBytes first others ≡ take lent page
@@ -288,7 +280,7 @@ cuts-all w page (n ∷ ns) rooms out = all-from w page out n ns rooms
 
 -- The theorem of cutting, of all the calls
 pub cuts-undivided : (w : State) (page lengths rooms out : List ℕ)
-    → Undivided w (take (total lengths) page) out (fedCuts w page lengths rooms out)
+    → Undivided w (lentOf page lengths) out (fedCuts w page lengths rooms out)
 cuts-undivided w page lengths rooms out =
     let a = cuts-all w page lengths rooms out in
     subst (λ (z : List ℕ). Undivided w z out (fedCuts w page lengths rooms out)) (take-min (total lengths) page)
@@ -373,7 +365,7 @@ module _ (page lengths rooms : List ℕ) where
   pub going-end : (w : State) (out : List ℕ) (n lent₀ m edge : ℕ) (b : Handed) (i lent : ℕ) (h : Handed) → n ≡ getD lengths 0 0
       → lent₀ ≡ min (0 + n) (length page) → m ≡ getD rooms 0 0 → edge ≡ min (0 + m) (length out)
       → b ≡ fedMore (handed (rests Done w) out) page lent₀ edge → Going page lengths rooms lent₀ b i lent h → length lengths ≤ i
-      → (h ≡ fedCuts w page lengths rooms out) × Undivided w (take (total lengths) page) out h
+      → (h ≡ fedCuts w page lengths rooms out) × Undivided w (lentOf page lengths) out h
   unfolding fedAll
   going-end w out n lent₀ m edge b i lent h p q s r e g t =
       let f : h ≡ fedCuts w page lengths rooms out =
@@ -383,4 +375,4 @@ module _ (page lengths rooms : List ℕ) where
       ∙ ap₂ (λ (u v : ℕ). fedAll (fedMore (handed (rests Done w) out) page u v) page u (drop 1 lengths) (drop 1 rooms))
       (q ∙ ap (λ (j : ℕ). min (0 + j) (length page)) p) (r ∙ ap (λ (j : ℕ). min (0 + j) (length out)) s)
       ∙ fed-first w page lengths rooms out in
-      (f, subst (Undivided w (take (total lengths) page) out) (sym f) (cuts-undivided w page lengths rooms out))
+      (f, subst (Undivided w (lentOf page lengths) out) (sym f) (cuts-undivided w page lengths rooms out))

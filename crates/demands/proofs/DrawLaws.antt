@@ -33,7 +33,7 @@ use Rattle.handing.specs.Handing.{stateLent, handedOf}
 use Rattle.reader.specs.declared.open.Opened.{Opened}
 use Rattle.reader.specs.declared.end.Ended.{Ended}
 use Rattle.reader.specs.Promises.{Opens, Ends}
-use Rattle.demands.specs.Cuts.{total, fedCuts, Undivided}
+use Rattle.demands.specs.Cuts.{lentOf, fedCuts, Undivided}
 use Rattle.demands.specs.Pictures.{endMore, endAfter, endDone, drawnCuts, recordsOf, NotRefused, Draws, DrawnAlike}
 
 -- Of end's promise, at the rest of the output
@@ -178,26 +178,28 @@ draws budget store bytes out f h u e = by (f .answer) refl
 
 pub drawn : (budget : ℕ) (store page lengths rooms out left : List ℕ) (o : Opened) (f h : Handed) → Opens budget store o left
     → f ≡ fedCuts (stateLent (o .session) left) page lengths rooms out
-    → Undivided (stateLent (o .session) left) (take (total lengths) page) out f → h ≡ endDone f
-    → (h ≡ drawnCuts budget store page lengths rooms out) × Draws budget store (take (total lengths) page) out h
+    → Undivided (stateLent (o .session) left) (lentOf page lengths) out f → h ≡ endDone f
+    → (h ≡ drawnCuts budget store page lengths rooms out) × Draws budget store (lentOf page lengths) out h
 unfolding drawnCuts
 drawn budget store page lengths rooms out left o f h p q u e =
     let w : stateLent (o .session) left ≡ openPage budget store .state = ap (λ (x : Opening). x .state) (p .same) in
-    let bytes = take (total lengths) page in (
+    let bytes = lentOf page lengths in (
       e ∙ ap endDone (q ∙ ap (λ (v : State). fedCuts v page lengths rooms out) w),
       draws budget store bytes out f h (subst (λ (v : State). Undivided v bytes out f) w u) e,
     )
 
--- Of two of them, the other lent the expansion of the bytes that the first was lent
-pub drawn-alike : (budget : ℕ) {store bytes out other free : List ℕ} (h k : Handed) → Draws budget store bytes out h → h .answer ≡ Done
-    → length other ≡ storeSize → Draws budget other (expansion budget bytes) free k → DrawnAlike budget bytes h k
-drawn-alike budget {bytes = bytes} h k d a s e =
+-- Of two of them
+pub drawn-alike : (budget : ℕ) {store bytes out free others rest : List ℕ} {h k : Handed} → Draws budget store bytes out h
+    → Draws budget free others rest k → h .answer ≡ Done → length free ≡ storeSize → others ≡ expansion budget bytes
+    → DrawnAlike budget bytes h k
+drawn-alike budget {bytes = bytes} {free = free} {rest = rest} {k = k} d e a s q =
     let x = expanded budget bytes (d .accepted a) in
+    let f = subst (λ (l : List ℕ). Draws budget free l rest k) q e in
     record {
       accepted = x .accepted;
-      notRefused = e .notRefused s (x .accepted);
-      records = λ b. d .records a ∙ x .same .records ∙ sym (e .records b);
+      notRefused = f .notRefused s (x .accepted);
+      records = λ b. d .records a ∙ x .same .records ∙ sym (f .records b);
       state = λ b.
           subst (λ (v : State). SameState v (k .state)) (sym (d .state a))
-          (subst (SameState (endPage budget bytes .state)) (sym (e .state b)) (x .same .state));
+          (subst (SameState (endPage budget bytes .state)) (sym (f .state b)) (x .same .state));
     }

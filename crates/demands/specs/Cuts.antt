@@ -13,6 +13,10 @@ unfoldable pub total : List ℕ → ℕ
 total [] = 0
 total (n ∷ ns) = n + total ns
 
+-- The bytes of a page that calls of these lengths are lent in all
+abbrev pub lentOf : List ℕ → List ℕ → List ℕ
+lentOf page lengths = take (total lengths) page
+
 -- What a feed of what is unread of the page's first lent bytes comes to, into out[written..edge], after calls that came to h: counts
 -- added up, the rest of the output as it was
 abbrev pub fedMore : Handed → List ℕ → ℕ → ℕ → Handed

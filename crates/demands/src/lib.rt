@@ -7,10 +7,19 @@ use rules::Answer;
 use rules::Session;
 ghost use mathlib.Core.Path.{_≡_};
 ghost use Prim.Native.Nat.{_+_, _≤_, min};
-ghost use lib.ListN.{length, getD, take};
+ghost use lib.ListN.{length, getD};
+ghost use Rattle.rules.specs.declared.Answer.the-variants.{Done};
+ghost use Rattle.rules.specs.Store.{storeSize};
+ghost use Rattle.rules.specs.Expansion.{expansion};
 ghost use Rattle.handing.specs.Handing.{stateLent, handedOf};
-ghost use Rattle.demands.specs.Cuts.{total, fedMore, fedCuts, Undivided};
-ghost use Rattle.demands.specs.Pictures.{endMore, endDone, drawnCuts, Draws};
+ghost use Rattle.demands.specs.Cuts.{lentOf, fedMore, fedCuts, Undivided};
+ghost use Rattle.demands.specs.Pictures.{endMore, endDone, drawnCuts, Draws, DrawnAlike};
+
+// What calls on a page came to, and calls on another.
+pub struct Both {
+    pub page: Fed,
+    pub other: Fed,
+}
 
 // Past the last number, 0.
 fn number_at(numbers: &[usize], i: usize) -> usize
@@ -78,7 +87,7 @@ pub fn feed_cuts(
 ) -> Fed
     ensures { λ r. ⌜ handedOf r (now (store .exit)) (now (out .exit))
         ≡ fedCuts (stateLent session (now (store .entry))) (now (page .entry)) (now (lengths .entry)) (now (rooms .entry)) (now (out .entry)) ⌝ }
-    ensures { λ r. ⌜ Undivided (stateLent session (now (store .entry))) (take (total (now (lengths .entry))) (now (page .entry)))
+    ensures { λ r. ⌜ Undivided (stateLent session (now (store .entry))) (lentOf (now (page .entry)) (now (lengths .entry)))
         (now (out .entry)) (handedOf r (now (store .exit)) (now (out .exit))) ⌝ }
 {
     let mut lent = reach(0, number_at(lengths, 0), page.len());
@@ -141,10 +150,48 @@ pub fn draw_cuts(
 ) -> Fed
     ensures { λ r. ⌜ handedOf r (now (store .exit)) (now (out .exit))
         ≡ drawnCuts budget (now (store .entry)) (now (page .entry)) (now (lengths .entry)) (now (rooms .entry)) (now (out .entry)) ⌝ }
-    ensures { λ r. ⌜ Draws budget (now (store .entry)) (take (total (now (lengths .entry))) (now (page .entry)))
+    ensures { λ r. ⌜ Draws budget (now (store .entry)) (lentOf (now (page .entry)) (now (lengths .entry)))
         (now (out .entry)) (handedOf r (now (store .exit)) (now (out .exit))) ⌝ }
 {
     let opened = open(store, budget);
     let fed = feed_cuts(opened.session, store, page, lengths, rooms, out);
     end_done(fed, store, out)
+}
+
+// Two pages drawn with the same budget, each with cuts and buffers of its own. Where the other is the expansion of a page whose
+// calls all answered done, none of its calls is refused, and both pages are drawn alike.
+pub fn draw_both(
+    budget: u32,
+    store: &mut [u8],
+    page: &[u8],
+    lengths: &[usize],
+    rooms: &[usize],
+    out: &mut [u8],
+    other_store: &mut [u8],
+    other: &[u8],
+    other_lengths: &[usize],
+    other_rooms: &[usize],
+    other_out: &mut [u8],
+) -> Both
+    ensures { λ r. ⌜ handedOf (r .page) (now (store .exit)) (now (out .exit))
+        ≡ drawnCuts budget (now (store .entry)) (now (page .entry)) (now (lengths .entry)) (now (rooms .entry)) (now (out .entry)) ⌝ }
+    ensures { λ r. ⌜ handedOf (r .other) (now («other_store» .exit)) (now («other_out» .exit))
+        ≡ drawnCuts budget (now («other_store» .entry)) (now (other .entry)) (now («other_lengths» .entry))
+        (now («other_rooms» .entry)) (now («other_out» .entry)) ⌝ }
+    ensures { λ r. ⌜ (r .page .answer ≡ Done → length (now («other_store» .entry)) ≡ storeSize
+        → lentOf (now (other .entry)) (now («other_lengths» .entry)) ≡ expansion budget (lentOf (now (page .entry)) (now (lengths .entry)))
+        → DrawnAlike budget (lentOf (now (page .entry)) (now (lengths .entry)))
+        (handedOf (r .page) (now (store .exit)) (now (out .exit)))
+        (handedOf (r .other) (now («other_store» .exit)) (now («other_out» .exit)))) ⌝ }
+{
+    let page = draw_cuts(budget, store, page, lengths, rooms, out);
+    let other = draw_cuts(
+        budget,
+        other_store,
+        other,
+        other_lengths,
+        other_rooms,
+        other_out,
+    );
+    Both { page, other }
 }

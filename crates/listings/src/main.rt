@@ -18,17 +18,16 @@ const LISTING_SIZE: usize = 163840;
 // No record's line is shorter.
 const LINE_SIZE: usize = 32;
 
-// A listing has no more of them.
-const RECORDS: usize = 5120;
+const RECORDS: usize = LISTING_SIZE / LINE_SIZE;
 
-// A call for each byte of a page and for each record, and one more.
-const CALLS: usize = 21505;
+// One for each byte of a page, one for each record, and one more.
+const CALLS: usize = PAGE_SIZE + RECORDS + 1;
+
+// So many records of 40 bytes are made text at a time.
+const PART_SIZE: usize = 100 * 40;
 
 // All the records, and the largest buffer after them.
-const OUTPUT_SIZE: usize = 208800;
-
-// A hundred records at a time are made text.
-const PART_SIZE: usize = 4000;
+const OUTPUT_SIZE: usize = RECORDS * 40 + 4000;
 
 // How much of a listing the text so far agrees with.
 enum Met {

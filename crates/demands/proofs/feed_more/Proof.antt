@@ -31,7 +31,7 @@ add-t17 c =
     let feed-from· = c .before .before .before .before .before .before .feed-from in
     let pre· = c .before .before .before .before .before .before .before .before .before .before .before .before .before .pre in
     let fits· = c .before .before .before .before .before .before .before .before .before .before .before .before .before .fits in
-    let k = fed-counts _ (now (args· .page)) (now (args· .out)) (args· .before .consumed) (args· .lent) (args· .before .written) (args· .edge) (feed-from· .result) _ _ (feed-from· .ensures) in
+    let k = fed-counts (args· .before) (now (args· .store)) (now (args· .page)) (now (args· .out)) (args· .lent) (args· .edge) (feed-from· .result) _ _ (feed-from· .ensures) (pre· .0 .0) (pre· .1 .0) (pre· .1 .1) in
     omega (arith, pre·, fits·)
 
 add-t20 : tie.Need-add-t20
@@ -40,7 +40,7 @@ add-t20 c =
     let feed-from· = c .before .before .before .before .before .before .before .feed-from in
     let pre· = c .before .before .before .before .before .before .before .before .before .before .before .before .before .before .pre in
     let fits· = c .before .before .before .before .before .before .before .before .before .before .before .before .before .before .fits in
-    let k = fed-counts _ (now (args· .page)) (now (args· .out)) (args· .before .consumed) (args· .lent) (args· .before .written) (args· .edge) (feed-from· .result) _ _ (feed-from· .ensures) in
+    let k = fed-counts (args· .before) (now (args· .store)) (now (args· .page)) (now (args· .out)) (args· .lent) (args· .edge) (feed-from· .result) _ _ (feed-from· .ensures) (pre· .0 .0) (pre· .1 .0) (pre· .1 .1) in
     omega (arith, pre·, fits·)
 
 same-length : tie.Need-same-length
