@@ -1,40 +1,38 @@
 // Reads stored pages, each undivided and cut into pieces of several sizes, with output buffers of several sizes, and compares
 // the text with the stored listing. The file `index` names the groups, a folder each, and `index` in a folder its pages.
 // A line is printed for each group, one for all, and one for each reading that differs: page, cut and buffer.
+use demands::draw_cuts;
 use libc::STDOUT_FILENO;
-use reader::end::end;
-use reader::feed::feed;
 use reader::number::number_of;
-use reader::open::open;
-use reader::unread::unread;
-use rules::Answer;
-use rules::Session;
-ghost use Prim.Native.Nat.{_≤_, _<_};
+ghost use mathlib.Core.Path.{_≡_};
+ghost use Prim.Native.Nat.{_≤_, _<_, min};
 ghost use lib.ListN.{length};
 ghost use Rattle.io.specs.Counts.{Counts};
 
 // No stored page is longer.
 const PAGE_SIZE: usize = 16384;
 
+// No stored listing is longer.
+const LISTING_SIZE: usize = 163840;
+
+// No record's line is shorter.
+const LINE_SIZE: usize = 32;
+
+const RECORDS: usize = LISTING_SIZE / LINE_SIZE;
+
+// One for each byte of a page, one for each record, and one more.
+const CALLS: usize = PAGE_SIZE + RECORDS + 1;
+
+// So many records of 40 bytes are made text at a time.
+const PART_SIZE: usize = 100 * 40;
+
+// All the records, and the largest buffer after them.
+const OUTPUT_SIZE: usize = RECORDS * 40 + 4000;
+
 // How much of a listing the text so far agrees with.
 enum Met {
     Upto(usize),
     Differs,
-}
-
-// What follows a feed: the same piece again, the next piece, the end of the page, or nothing, since the text differs.
-enum Next {
-    Again,
-    On,
-    End,
-    Differs,
-}
-
-struct Turn {
-    session: Session,
-    met: usize,
-    consumed: usize,
-    next: Next,
 }
 
 fn meet(listing: &[u8], met: usize, text: &[u8]) -> Met {
@@ -53,9 +51,11 @@ fn meet(listing: &[u8], met: usize, text: &[u8]) -> Met {
     Met::Upto(at)
 }
 
-fn meet_lines(listing: &[u8], met: usize, out: &[u8; 4000], written: usize) -> Met {
+fn meet_lines(listing: &[u8], met: usize, records: &[u8]) -> Met
+    requires { ⌜ length (now records) ≤ 4000 ⌝ }
+{
     let mut text = [0u8; 19200];
-    let n = listing::put_lines(&mut text, out, written);
+    let n = listing::put_lines(&mut text, records, records.len());
     meet(listing, met, &text[..n])
 }
 
@@ -65,162 +65,64 @@ fn meet_closing(listing: &[u8], met: usize, number: u8, steps: u32) -> Met {
     meet(listing, met, &text[..n])
 }
 
-fn next_after(answer: Answer) -> Next {
-    match answer {
-        Answer::Done => Next::On,
-        Answer::Full => Next::Again,
-        Answer::Refused(_) => Next::End,
-    }
-}
-
-// So many bytes of a buffer, or as many as it has.
-fn at_most(n: usize, buffer: &[u8]) -> usize
-    ensures { λ r. ⌜ Counts r (now (buffer .entry)) ⌝ }
+fn least(a: usize, b: usize) -> usize
+    ensures { λ r. ⌜ r ≡ min a b ⌝ }
 {
-    if n < buffer.len() {
-        return n;
-    }
-    buffer.len()
+    if a < b { a } else { b }
 }
 
-fn feed_once(
-    session: Session,
-    store: &mut [u8],
-    piece: &[u8],
-    buffer: usize,
-    listing: &[u8],
-    met: usize,
-) -> Turn {
-    let mut out = [0u8; 4000];
-    let room = at_most(buffer, &out);
-    let fed = feed(session, store, piece, &mut out[..room]);
-    let session = fed.session;
-    let answer = fed.answer;
-    match meet_lines(listing, met, &out, fed.written) {
-        Met::Upto(met) => {
-            let next = next_after(answer);
-            Turn {
-                session,
-                met,
-                consumed: fed.consumed,
-                next,
-            }
-        }
-        Met::Differs => Turn {
-            session,
-            met,
-            consumed: 0,
-            next: Next::Differs,
-        },
-    }
-}
-
-// Feeds a piece until it is read or a step is refused. A proved loop has to end, so it counts its turns down, from a number
-// that no run uses up.
-fn feed_piece(
-    session: Session,
-    store: &mut [u8],
-    piece: &[u8],
-    buffer: usize,
-    listing: &[u8],
-    met: usize,
-) -> Turn {
-    let mut session = session;
-    let mut met = met;
-    let mut rest = piece;
-    let mut turns = u64::MAX;
-    while turns > 0 {
-        let turn = feed_once(session, store, rest, buffer, listing, met);
-        session = turn.session;
-        met = turn.met;
-        let next = turn.next;
-        let Next::Again = next else {
-            return turn;
-        };
-        let left = unread(rest, turn.consumed);
-        rest = left;
-        turns -= 1;
-    }
-    Turn {
-        session,
-        met,
-        consumed: 0,
-        next: Next::Differs,
-    }
-}
-
-fn piece_end(from: usize, cut: usize, length: usize) -> usize
-    requires { ⌜ (0 < cut) × (from < length) ⌝ }
-    ensures { λ r. ⌜ (from < r) × (r ≤ length) ⌝ }
-{
-    if length - from < cut {
-        return length;
-    }
-    from + cut
-}
-
-fn feed_page(
-    session: Session,
-    store: &mut [u8],
-    page: &[u8],
-    cut: usize,
-    buffer: usize,
-    listing: &[u8],
-) -> Turn
-    requires { ⌜ 0 < cut ⌝ }
-{
-    let mut session = session;
+fn meet_records(listing: &[u8], records: &[u8]) -> Met {
     let mut met: usize = 0;
-    let mut from: usize = 0;
-    while from < page.len() {
-        let to = piece_end(from, cut, page.len());
-        let turn = feed_piece(session, store, &page[from..to], buffer, listing, met);
-        session = turn.session;
-        met = turn.met;
-        let next = turn.next;
-        let Next::On = next else {
-            return turn;
+    let mut at: usize = 0;
+    while at < records.len() {
+        let to = at + least(PART_SIZE, records.len() - at);
+        let part = meet_lines(listing, met, &records[at..to]);
+        let Met::Upto(more) = part else {
+            return Met::Differs;
         };
-        from = to;
+        met = more;
+        at = to;
     }
-    Turn {
-        session,
-        met,
-        consumed: 0,
-        next: Next::End,
-    }
+    Met::Upto(met)
 }
 
-// Whether the end of a page gives the rest of the listing.
-fn ends(session: Session, store: &[u8], listing: &[u8], met: usize) -> bool {
-    let mut out = [0u8; 4000];
-    let ended = end(session, store, &mut out);
-    let answer = ended.answer;
-    let session = ended.session;
-    let lines = meet_lines(listing, met, &out, ended.written);
+// Whether the listing is the lines of the records and the closing line.
+fn lists(listing: &[u8], records: &[u8], number: u8, steps: u32) -> bool {
+    let lines = meet_records(listing, records);
     let Met::Upto(met) = lines else {
         return false;
     };
-    let closing = meet_closing(listing, met, number_of(answer), session.steps);
+    let closing = meet_closing(listing, met, number, steps);
     let Met::Upto(met) = closing else {
         return false;
     };
     met == listing.len()
 }
 
+// Whether a page, read in pieces of `cut` bytes into buffers of `buffer` bytes, gives its listing. A call for each piece and for
+// each record is enough, since one that answers full wrote a record. Calls that are too few, or records that do not fit, end full,
+// and no listing says so.
 fn agrees(page: &[u8], listing: &[u8], cut: usize, buffer: usize) -> bool
     requires { ⌜ 0 < cut ⌝ }
 {
     let mut store = [0u8; 8192];
-    let opened = open(&mut store, u32::MAX);
-    let session = opened.session;
-    let turn = feed_page(session, &mut store, page, cut, buffer, listing);
-    let session = turn.session;
-    let next = turn.next;
-    let Next::End = next else {
-        return false;
-    };
-    ends(session, &store, listing, turn.met)
+    let lengths = [cut; CALLS];
+    let rooms = [buffer; CALLS];
+    let mut out = [0u8; OUTPUT_SIZE];
+    let pieces = least(page.len() / cut, PAGE_SIZE);
+    let calls = pieces + least(listing.len() / LINE_SIZE, RECORDS) + 1;
+    let drawn = draw_cuts(
+        u32::MAX,
+        &mut store,
+        page,
+        &lengths[..calls],
+        &rooms[..calls],
+        &mut out,
+    );
+    let answer = drawn.answer;
+    let session = drawn.session;
+    let written = drawn.written;
+    lists(listing, &out[..written], number_of(answer), session.steps)
 }
 
 fn compare(name: &[u8], page: &[u8], listing: &[u8], cut: usize, buffer: usize)
@@ -294,7 +196,7 @@ fn load(group: &[u8], name: &[u8], suffix: &[u8], into: &mut [u8]) -> usize
 fn compare_page(group: &[u8], name: &[u8]) {
     let mut page = [0u8; PAGE_SIZE];
     let n = load(group, name, b".page", &mut page);
-    let mut listing = [0u8; 163840];
+    let mut listing = [0u8; LISTING_SIZE];
     let m = load(group, name, b".listing", &mut listing);
     compare_cuts(name, &page[..n], &listing[..m]);
 }
