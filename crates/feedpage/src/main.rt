@@ -6,13 +6,16 @@ use libc::SEEK_SET;
 use libc::STDIN_FILENO;
 use libc::STDOUT_FILENO;
 use reader::end::end;
-use reader::feed::feed;
+use reader::feed::feed_from;
 use reader::number::number_of;
 use reader::open::open;
-use reader::unread::unread;
 use rules::Answer;
 use rules::Session;
 ghost use mathlib.Core.Path.{_≡_};
+ghost use Prim.Native.Nat.{_<_};
+ghost use Rattle.rules.proofs.Feeding.{stepsLeft};
+ghost use Rattle.handing.specs.Handing.{stateLent};
+ghost use Rattle.reader.specs.Whole.{Whole};
 
 const MOST_ROUNDS: u32 = 1000000;
 
@@ -26,6 +29,12 @@ enum Next {
 struct Turn {
     session: Session,
     next: Next,
+}
+
+fn turn_to(session: Session, next: Next) -> Turn
+    ensures { λ r. ⌜ r ≡ record { session = session; next = next } ⌝ }
+{
+    Turn { session, next }
 }
 
 fn wide(byte: u8) -> u32
@@ -64,64 +73,49 @@ fn rounds_asked() -> u32 {
     number_in(&text[..n])
 }
 
-fn next_after(answer: Answer) -> Next {
-    match answer {
-        Answer::Done => Next::Read,
-        Answer::Full => Next::Failed,
-        Answer::Refused(_) => Next::End,
-    }
-}
-
-// Feeds a piece until it is read or a step is refused. A proved loop has to end, so it counts its turns down, from a number
-// that no run uses up.
+// Feeds a piece until it is read or a step is refused.
 fn feed_piece(
     session: Session,
     store: &mut [u8; 8192],
     piece: &[u8],
     out: &mut [u8; 163840],
-) -> Turn {
+) -> Turn
+    ensures { λ r. ⌜ Whole Next.Read Next.End (stateLent session (now (store .entry))) (now (piece .entry))
+        (r .next) (stateLent (r .session) (now (store .exit))) ⌝ }
+{
     let mut session = session;
-    let mut rest = piece;
-    let mut turns = u64::MAX;
-    while turns > 0 {
-        let fed = feed(session, store, rest, out);
+    let mut at: usize = 0;
+    loop {
+        let fed = feed_from(session, store, piece, at, out);
         session = fed.session;
         let answer = fed.answer;
-        let Answer::Full = answer else {
-            let next = next_after(answer);
-            return Turn { session, next };
-        };
-        let left = unread(rest, fed.consumed);
-        rest = left;
-        turns -= 1;
-    }
-    Turn {
-        session,
-        next: Next::Failed,
+        match answer {
+            Answer::Done => return turn_to(session, Next::Read),
+            Answer::Refused(_) => return turn_to(session, Next::End),
+            Answer::Full => at += fed.consumed,
+        }
     }
 }
 
+// Reads a piece of standard input. One that has bytes leaves less of the budget where it is read.
 fn read_once(
     session: Session,
     store: &mut [u8; 8192],
     piece: &mut [u8],
     out: &mut [u8; 163840],
-) -> Turn {
+) -> Turn
+    ensures { λ r. ⌜ (r .next ≡ Next.Read →
+        stepsLeft (stateLent (r .session) (now (store .exit))) < stepsLeft (stateLent session (now (store .entry)))) ⌝ }
+{
     let got = libc::read(STDIN_FILENO, piece);
     if got < 0 {
         os::fail(b"standard input");
-        return Turn {
-            session,
-            next: Next::Failed,
-        };
-    }
-    if got == 0 {
-        return Turn {
-            session,
-            next: Next::End,
-        };
+        return turn_to(session, Next::Failed);
     }
     let n = io::count(got, piece);
+    if n == 0 {
+        return turn_to(session, Next::End);
+    }
     feed_piece(session, store, &piece[..n], out)
 }
 
@@ -132,19 +126,13 @@ fn read_page(
     out: &mut [u8; 163840],
 ) -> Turn {
     let mut session = session;
-    let mut turns = u64::MAX;
-    while turns > 0 {
+    loop {
         let turn = read_once(session, store, piece, out);
         session = turn.session;
         let next = turn.next;
         let Next::Read = next else {
             return turn;
         };
-        turns -= 1;
-    }
-    Turn {
-        session,
-        next: Next::Failed,
     }
 }
 
@@ -154,10 +142,7 @@ fn read_again(store: &mut [u8; 8192], piece: &mut [u8], out: &mut [u8; 163840]) 
     let session = opened.session;
     if libc::lseek(STDIN_FILENO, 0, SEEK_SET) != 0 {
         os::fail(b"standard input");
-        return Turn {
-            session,
-            next: Next::Failed,
-        };
+        return turn_to(session, Next::Failed);
     }
     read_page(session, store, piece, out)
 }

@@ -3,16 +3,19 @@
 use libc::STDIN_FILENO;
 use libc::STDOUT_FILENO;
 use reader::end::end;
-use reader::feed::feed;
+use reader::feed::feed_from;
 use reader::number::number_of;
 use reader::open::open;
-use reader::unread::unread;
 use rules::Answer;
 use rules::Session;
+ghost use mathlib.Core.Path.{_≡_};
+ghost use Prim.Native.Nat.{_<_};
+ghost use Rattle.rules.proofs.Feeding.{stepsLeft};
+ghost use Rattle.handing.specs.Handing.{stateLent};
+ghost use Rattle.reader.specs.Whole.{Whole};
 
-// What follows a feed: the same piece again, the next piece, the end of the page, or nothing, since a read or a write failed.
+// What follows a piece: the next piece, the end of the page, or nothing, since a read or a write failed.
 enum Next {
-    Again,
     Read,
     End,
     Failed,
@@ -20,8 +23,13 @@ enum Next {
 
 struct Turn {
     session: Session,
-    consumed: usize,
     next: Next,
+}
+
+fn turn_to(session: Session, next: Next) -> Turn
+    ensures { λ r. ⌜ r ≡ record { session = session; next = next } ⌝ }
+{
+    Turn { session, next }
 }
 
 fn write_text(text: &[u8]) -> bool {
@@ -38,97 +46,61 @@ fn write_lines(out: &[u8; 4000], written: usize) -> bool {
     write_text(&text[..n])
 }
 
-fn next_after(answer: Answer, is_written: bool) -> Next {
-    if !is_written {
-        return Next::Failed;
-    }
-    match answer {
-        Answer::Done => Next::Read,
-        Answer::Full => Next::Again,
-        Answer::Refused(_) => Next::End,
-    }
-}
-
-fn feed_once(session: Session, store: &mut [u8], piece: &[u8]) -> Turn {
+// Feeds a piece until it is read or a step is refused, and writes the lines of each call's records.
+fn feed_piece(session: Session, store: &mut [u8; 8192], piece: &[u8]) -> Turn
+    ensures { λ r. ⌜ ((r .next ≡ Next.Failed → ⊥) →
+        Whole Next.Read Next.End (stateLent session (now (store .entry))) (now (piece .entry))
+        (r .next) (stateLent (r .session) (now (store .exit)))) ⌝ }
+{
     let mut out = [0u8; 4000];
-    let fed = feed(session, store, piece, &mut out);
-    let is_written = write_lines(&out, fed.written);
-    let session = fed.session;
-    let answer = fed.answer;
-    let next = next_after(answer, is_written);
-    Turn {
-        session,
-        consumed: fed.consumed,
-        next,
-    }
-}
-
-// Feeds a piece until it is read or a step is refused. A proved loop has to end, so it counts its turns down, from a number
-// that no run uses up.
-fn feed_piece(session: Session, store: &mut [u8], piece: &[u8]) -> Turn {
     let mut session = session;
-    let mut rest = piece;
-    let mut turns = u64::MAX;
-    while turns > 0 {
-        let turn = feed_once(session, store, rest);
-        session = turn.session;
-        let next = turn.next;
-        let Next::Again = next else {
-            return turn;
-        };
-        let left = unread(rest, turn.consumed);
-        rest = left;
-        turns -= 1;
-    }
-    Turn {
-        session,
-        consumed: 0,
-        next: Next::Failed,
+    let mut at: usize = 0;
+    loop {
+        let fed = feed_from(session, store, piece, at, &mut out);
+        session = fed.session;
+        if !write_lines(&out, fed.written) {
+            return turn_to(session, Next::Failed);
+        }
+        let answer = fed.answer;
+        match answer {
+            Answer::Done => return turn_to(session, Next::Read),
+            Answer::Refused(_) => return turn_to(session, Next::End),
+            Answer::Full => at += fed.consumed,
+        }
     }
 }
 
-fn read_once(session: Session, store: &mut [u8]) -> Turn {
+// Reads a piece of standard input. One that has bytes leaves less of the budget where it is read.
+fn read_once(session: Session, store: &mut [u8; 8192]) -> Turn
+    ensures { λ r. ⌜ (r .next ≡ Next.Read →
+        stepsLeft (stateLent (r .session) (now (store .exit))) < stepsLeft (stateLent session (now (store .entry)))) ⌝ }
+{
     let mut piece = io::buffer();
     let got = libc::read(STDIN_FILENO, &mut piece);
     if got < 0 {
         os::fail(b"standard input");
-        return Turn {
-            session,
-            consumed: 0,
-            next: Next::Failed,
-        };
-    }
-    if got == 0 {
-        return Turn {
-            session,
-            consumed: 0,
-            next: Next::End,
-        };
+        return turn_to(session, Next::Failed);
     }
     let n = io::count(got, &piece);
+    if n == 0 {
+        return turn_to(session, Next::End);
+    }
     feed_piece(session, store, &piece[..n])
 }
 
-fn read_page(session: Session, store: &mut [u8]) -> Turn {
+fn read_page(session: Session, store: &mut [u8; 8192]) -> Turn {
     let mut session = session;
-    let mut turns = u64::MAX;
-    while turns > 0 {
+    loop {
         let turn = read_once(session, store);
         session = turn.session;
         let next = turn.next;
         let Next::Read = next else {
             return turn;
         };
-        turns -= 1;
-    }
-    Turn {
-        session,
-        consumed: 0,
-        next: Next::Failed,
     }
 }
 
-fn end_page(session: Session, store: &[u8]) {
+fn end_page(session: Session, store: &[u8; 8192]) {
     let mut out = [0u8; 4000];
     let ended = end(session, store, &mut out);
     if !write_lines(&out, ended.written) {

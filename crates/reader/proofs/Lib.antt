@@ -1,3 +1,4 @@
 pub mod FeedLaws
 pub mod EndLaws
 pub mod Promising
+pub mod WholeLaws

@@ -1,42 +1,93 @@
+use denote.Ref.{now}
 use borrow.Author.Needs.{needs}
+use native.Mathlib.Omega.{arith}
+use mathlib.Core.Path.{_≡_, refl, sym, subst}
+use Rattle.rules.proofs.Feeding.{stepsLeft}
+use Rattle.handing.specs.Handing.{stateLent}
+use Rattle.reader.specs.Whole.{Follows}
+use Rattle.reader.proofs.WholeLaws.{Goes, goes-first, goes-within, goes-on, goes-less, goes-whole}
 use Rattle.feedpage.proofs.feed_piece.Statement.{statement}
 use Rattle.feedpage.proofs.feed_piece.Tie as tie
 
 abbrev Inv-loop : tie.InvT-loop
-Inv-loop store₀ piece out₀ session₀ rest₀ turns₀ store out session rest turns = Unit {0}
+Inv-loop store₀ piece out₀ session₀ at₀ store out session at = Goes (stateLent session₀ store₀) piece at (stateLent session store)
 
 abbrev μ-loop : tie.MeasureT-loop
-μ-loop store₀ piece out₀ session₀ rest₀ turns₀ store out session rest turns = turns
+μ-loop store₀ piece out₀ session₀ at₀ store out session at = stepsLeft (stateLent session store)
 
 loop-holds : tie.Need-loop-holds Inv-loop μ-loop
-loop-holds c = search needs
+loop-holds c = goes-first _ _
 
-feed-requires : tie.Need-feed-requires Inv-loop μ-loop
-feed-requires c κs = search needs
+feed-from-requires : tie.Need-feed-from-requires Inv-loop μ-loop
+feed-from-requires c κs = search needs
 
 enum-told : tie.Need-enum-told Inv-loop μ-loop
 enum-told c = search needs
 
-next-after-requires : tie.Need-next-after-requires Inv-loop μ-loop
-next-after-requires c κs = search needs
+turn-to-requires : tie.Need-turn-to-requires Inv-loop μ-loop
+turn-to-requires c κs = search needs
 
 returns : tie.Need-returns Inv-loop μ-loop
-returns c = search needs
+returns c =
+    let turn-to· = c .turn-to in
+    let loop· = c .before .before .before .before .before .before .before .loop in
+    let feed-from· = c .before .before .before .before .feed-from in
+    let enum-told· = c .before .enum-told in
+    rw (turn-to· .ensures) (goes-whole (loop· .inv) (feed-from· .ensures) (rw (enum-told· .given .1)))
 
-unread-requires : tie.Need-unread-requires Inv-loop μ-loop
-unread-requires c κs = search needs
+enum-told-2 : tie.Need-enum-told-2 Inv-loop μ-loop
+enum-told-2 c = search needs
 
-sub-turns : tie.Need-sub-turns Inv-loop μ-loop
-sub-turns c = search needs
-
-loop-less : tie.Need-loop-less Inv-loop μ-loop
-loop-less c = search needs
-
-loop-again : tie.Need-loop-again Inv-loop μ-loop
-loop-again c = search needs
+turn-to-requires-2 : tie.Need-turn-to-requires-2 Inv-loop μ-loop
+turn-to-requires-2 c κs = search needs
 
 returns-2 : tie.Need-returns-2 Inv-loop μ-loop
-returns-2 c = search needs
+returns-2 c =
+    let turn-to2· = c .turn-to2 in
+    let loop· = c .before .before .before .before .before .before .before .loop in
+    let feed-from· = c .before .before .before .before .feed-from in
+    let enum-told2· = c .before .enum-told2 in
+    rw (turn-to2· .ensures) (goes-whole (loop· .inv) (feed-from· .ensures) (rw (enum-told2· .given .1)))
+
+enum-told-3 : tie.Need-enum-told-3 Inv-loop μ-loop
+enum-told-3 c = search needs
+
+add-at : tie.Need-add-at Inv-loop μ-loop
+add-at c =
+    let loop· = c .before .before .before .before .before .before .before .loop in
+    let feed-from· = c .before .before .before .before .feed-from in
+    let good· = c .before .before .before .before .before .before .before .before .before .good in
+    omega (arith, good·, goes-within (loop· .inv) (feed-from· .ensures))
+
+loop-less : tie.Need-loop-less Inv-loop μ-loop
+loop-less c =
+    let loop· = c .before .before .before .before .before .before .before .loop in
+    let feed-from· = c .before .before .before .before .feed-from in
+    let enum-told3· = c .before .enum-told3 in
+    goes-less (loop· .inv) (feed-from· .ensures) (search needs) (enum-told3· .given .1)
+
+loop-again : tie.Need-loop-again Inv-loop μ-loop
+loop-again c =
+    let loop· = c .before .before .before .before .before .before .before .loop in
+    let feed-from· = c .before .before .before .before .feed-from in
+    let enum-told3· = c .before .enum-told3 in
+    goes-on (loop· .inv) (feed-from· .ensures) (enum-told3· .given .1)
 
 pub feed-piece-spec : {M : Type 1} → statement M
-feed-piece-spec = tie.close (tie.spec Inv-loop μ-loop loop-holds feed-requires enum-told next-after-requires returns unread-requires sub-turns loop-less loop-again returns-2)
+feed-piece-spec =
+    tie.close
+    (tie.spec
+    Inv-loop
+    μ-loop
+    loop-holds
+    feed-from-requires
+    enum-told
+    turn-to-requires
+    returns
+    enum-told-2
+    turn-to-requires-2
+    returns-2
+    enum-told-3
+    add-at
+    loop-less
+    loop-again)

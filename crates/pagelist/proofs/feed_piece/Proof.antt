@@ -1,47 +1,92 @@
 use borrow.Author.Needs.{needs}
-use mathlib.Core.Path.{_≡_}
+use native.Mathlib.Omega.{arith}
+use mathlib.Core.Path.{_≡_, ap}
 use lib.ListN.{length}
+use Rattle.rules.proofs.Feeding.{stepsLeft}
+use Rattle.handing.specs.Handing.{stateLent}
+use Rattle.reader.proofs.WholeLaws.{Goes, goes-first, goes-within, goes-on, goes-less, goes-whole}
+use Rattle.pagelist.specs.declared.Turn.{Turn}
 use Rattle.pagelist.proofs.feed_piece.Statement.{statement}
 use Rattle.pagelist.proofs.feed_piece.Tie as tie
 
 abbrev Inv-loop : tie.InvT-loop
-Inv-loop store₀ piece session₀ rest₀ turns₀ store session rest turns = length store ≡ length store₀
+Inv-loop store₀ piece out₀ session₀ at₀ store out session at =
+    (4000 ≡ length out) × Goes (stateLent session₀ store₀) piece at (stateLent session store)
 
 abbrev μ-loop : tie.MeasureT-loop
-μ-loop store₀ piece session₀ rest₀ turns₀ store session rest turns = turns
+μ-loop store₀ piece out₀ session₀ at₀ store out session at = stepsLeft (stateLent session store)
 
 loop-holds : tie.Need-loop-holds Inv-loop μ-loop
-loop-holds c = search needs
+loop-holds c = (search needs, goes-first _ _)
 
-feed-once-requires : tie.Need-feed-once-requires Inv-loop μ-loop
-feed-once-requires c κs = search needs
+slice-aggregate-feed-from : tie.Need-slice-aggregate-feed-from Inv-loop μ-loop
+slice-aggregate-feed-from c = search needs
+
+feed-from-requires : tie.Need-feed-from-requires Inv-loop μ-loop
+feed-from-requires c κs = search needs
+
+write-lines-requires : tie.Need-write-lines-requires Inv-loop μ-loop
+write-lines-requires c κs = search needs
+
+turn-to-requires : tie.Need-turn-to-requires Inv-loop μ-loop
+turn-to-requires c κs = search needs
+
+returns : tie.Need-returns Inv-loop μ-loop
+returns c =
+    let turn-to· = c .turn-to in
+    λ f. absurd (f (ap (λ (t : Turn). t .next) (turn-to· .ensures)))
 
 enum-told : tie.Need-enum-told Inv-loop μ-loop
 enum-told c = search needs
 
-same-length : tie.Need-same-length Inv-loop μ-loop
-same-length c = search needs
-
-returns : tie.Need-returns Inv-loop μ-loop
-returns c = search needs
-
-unread-requires : tie.Need-unread-requires Inv-loop μ-loop
-unread-requires c κs = search needs
-
-sub-turns : tie.Need-sub-turns Inv-loop μ-loop
-sub-turns c = search needs
-
-loop-less : tie.Need-loop-less Inv-loop μ-loop
-loop-less c = search needs
-
-loop-again : tie.Need-loop-again Inv-loop μ-loop
-loop-again c = search needs
-
-same-length-2 : tie.Need-same-length-2 Inv-loop μ-loop
-same-length-2 c = search needs
+turn-to-requires-2 : tie.Need-turn-to-requires-2 Inv-loop μ-loop
+turn-to-requires-2 c κs = search needs
 
 returns-2 : tie.Need-returns-2 Inv-loop μ-loop
-returns-2 c = search needs
+returns-2 c =
+    let turn-to2· = c .turn-to2 in
+    let loop· = c .before .before .before .before .before .before .before .before .before .before .before .loop in
+    let feed-from· = c .before .before .before .before .before .before .before .before .feed-from in
+    let enum-told· = c .before .enum-told in
+    λ f. rw (turn-to2· .ensures) (goes-whole (loop· .inv .1) (feed-from· .ensures) (rw (enum-told· .given .1)))
+
+enum-told-2 : tie.Need-enum-told-2 Inv-loop μ-loop
+enum-told-2 c = search needs
+
+turn-to-requires-3 : tie.Need-turn-to-requires-3 Inv-loop μ-loop
+turn-to-requires-3 c κs = search needs
+
+returns-3 : tie.Need-returns-3 Inv-loop μ-loop
+returns-3 c =
+    let turn-to3· = c .turn-to3 in
+    let loop· = c .before .before .before .before .before .before .before .before .before .before .before .loop in
+    let feed-from· = c .before .before .before .before .before .before .before .before .feed-from in
+    let enum-told2· = c .before .enum-told2 in
+    λ f. rw (turn-to3· .ensures) (goes-whole (loop· .inv .1) (feed-from· .ensures) (rw (enum-told2· .given .1)))
+
+enum-told-3 : tie.Need-enum-told-3 Inv-loop μ-loop
+enum-told-3 c = search needs
+
+add-at : tie.Need-add-at Inv-loop μ-loop
+add-at c =
+    let good· = c .before .before .before .before .before .before .before .before .before .before .before .before .before .good in
+    let loop· = c .before .before .before .before .before .before .before .before .before .before .before .loop in
+    let feed-from· = c .before .before .before .before .before .before .before .before .feed-from in
+    omega (arith, good·, goes-within (loop· .inv .1) (feed-from· .ensures))
+
+loop-less : tie.Need-loop-less Inv-loop μ-loop
+loop-less c =
+    let loop· = c .before .before .before .before .before .before .before .before .before .before .before .loop in
+    let feed-from· = c .before .before .before .before .before .before .before .before .feed-from in
+    let enum-told3· = c .before .enum-told3 in
+    goes-less (loop· .inv .1) (feed-from· .ensures) (search needs) (enum-told3· .given .1)
+
+loop-again : tie.Need-loop-again Inv-loop μ-loop
+loop-again c =
+    let loop· = c .before .before .before .before .before .before .before .before .before .before .before .loop in
+    let feed-from· = c .before .before .before .before .before .before .before .before .feed-from in
+    let enum-told3· = c .before .enum-told3 in
+    (search needs, goes-on (loop· .inv .1) (feed-from· .ensures) (enum-told3· .given .1))
 
 pub feed-piece-spec : {M : Type 1} → statement M
 feed-piece-spec =
@@ -50,13 +95,18 @@ feed-piece-spec =
     Inv-loop
     μ-loop
     loop-holds
-    feed-once-requires
-    enum-told
-    same-length
+    slice-aggregate-feed-from
+    feed-from-requires
+    write-lines-requires
+    turn-to-requires
     returns
-    unread-requires
-    sub-turns
+    enum-told
+    turn-to-requires-2
+    returns-2
+    enum-told-2
+    turn-to-requires-3
+    returns-3
+    enum-told-3
+    add-at
     loop-less
-    loop-again
-    same-length-2
-    returns-2)
+    loop-again)
