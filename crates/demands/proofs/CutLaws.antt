@@ -8,15 +8,14 @@ use mathlib.Core.List.{List, [], _∷_, _++_, append-assoc}
 use lib.ListN.{length, getD, take, drop, length-append, length-drop, length-take, take-append-drop, drop-of-length-le}
 use lib.Seq.{take-append-seam, drop-append-seam, drop-append-le, drop-append-add, drop-drop, drop-cons, getD-drop, take-add, length-take-le}
 use Rattle.rules.specs.declared.Answer.the-variants.{Done, Full}
-use Rattle.rules.specs.Step.{State, removeSpent, NothingLeft, seek}
+use Rattle.rules.specs.Step.{State, removeSpent, NothingLeft, seek, Some, stateLent}
 use Rattle.rules.specs.Reading.{Reading, Room, Steps, rests, readTo, undivided}
-use Rattle.rules.specs.Calls.{opened, Handed, handed, feed, unread, Lent, returned, join, feeds, lentBytes}
-use Rattle.rules.proofs.Steps.{Some}
-use Rattle.rules.proofs.Cutting.{cutting, returned-handed, opened-no-steps}
+use Rattle.rules.specs.Calls.{freshState, Handed, handed, feed, unread, Lent, returned, join, feeds, lentBytes}
+use Rattle.rules.proofs.Cutting.{cutting, returned-handed, fresh-no-steps}
 use Rattle.rules.proofs.CallLaws.{feed-kept}
 use Rattle.rules.proofs.Feeding.{lent-last, feeds-last}
 use Rattle.handing.specs.declared.Fed.{Fed}
-use Rattle.handing.specs.Handing.{stateLent, handedOf}
+use Rattle.handing.specs.Handing.{handedOf}
 use Rattle.reader.specs.Promises.{Feeds}
 use borrow.Rule.Slice.PartMut.{putMid, post-is}
 use Rattle.demands.specs.Cuts.{total, lentOf, fedMore, fedAll, fedCuts, Undivided}
@@ -287,10 +286,10 @@ cuts-undivided w page lengths rooms out =
     (come-undivided w page out (min (total lengths) (length page)) (fedCuts w page lengths rooms out) (a .come) (a .written))
 
 -- From a fresh session the steps are those that the session counts
-pub fresh-full : (budget : ℕ) (bytes out : List ℕ) (h : Handed) → Undivided (opened budget) bytes out h → h .answer ≡ Full
-    → h ≡ handed (readTo (Steps (h .state .session .steps)) (opened budget) bytes) out
+pub fresh-full : (budget : ℕ) (bytes out : List ℕ) (h : Handed) → Undivided (freshState budget) bytes out h → h .answer ≡ Full
+    → h ≡ handed (readTo (Steps (h .state .session .steps)) (freshState budget) bytes) out
 fresh-full budget bytes out h u f =
-    u .full f ∙ ap (λ (k : ℕ). handed (readTo (Steps k) (opened budget) bytes) out) (opened-no-steps budget (h .state .session .steps))
+    u .full f ∙ ap (λ (k : ℕ). handed (readTo (Steps k) (freshState budget) bytes) out) (fresh-no-steps budget (h .state .session .steps))
 
 -- The loop that makes them
 

@@ -20,16 +20,16 @@ use Rattle.rules.specs.Bodies.{bytesLeft}
 use Rattle.rules.specs.Coding.{unfinished}
 use Rattle.rules.specs.Drawing.{isOpen}
 use Rattle.rules.specs.Ranges.{fits}
-use Rattle.rules.specs.Step.{State}
+use Rattle.rules.specs.Step.{State, stateLent}
 use Rattle.rules.specs.Reading.{Reading, Always, roomForStep, verdict, tests, undivided}
-use Rattle.rules.specs.Calls.{Opening, opened, openAs, openPage, Handed, handed, ending, endChecks, end}
+use Rattle.rules.specs.Calls.{Opening, freshState, openAs, openPage, Handed, handed, ending, endChecks, end}
 use Rattle.rules.specs.Expansion.{expansion, readPage, endPage, Accepted, allRecords, SameState}
 use Rattle.rules.proofs.Readings.{full-done, refused-done, refused-full, reads-failed}
 use Rattle.rules.proofs.CallLaws.{end-kept}
 use Rattle.rules.proofs.Demand3.{end-room}
 use Rattle.rules.proofs.Expanding.{expanded}
 use Rattle.handing.specs.declared.Fed.{Fed}
-use Rattle.handing.specs.Handing.{stateLent, handedOf}
+use Rattle.handing.specs.Handing.{handedOf}
 use Rattle.reader.specs.declared.open.Opened.{Opened}
 use Rattle.reader.specs.declared.end.Ended.{Ended}
 use Rattle.reader.specs.Promises.{Opens, Ends}
@@ -74,18 +74,18 @@ end-told h e = ap (λ (a : Answer). endAfter a h) (sym e)
 
 -- Open
 
-open-sized : (budget : ℕ) (store : List ℕ) → length store ≡ storeSize → openPage budget store .state ≡ opened budget
+open-sized : (budget : ℕ) (store : List ℕ) → length store ≡ storeSize → openPage budget store .state ≡ freshState budget
 unfolding openPage openAs
 open-sized budget store e = ap (λ (t : Bool). openAs t budget store .state) (eq-eqb (length store) storeSize e)
 
 -- The session of an open that was refused reads nothing
 open-read : (budget : ℕ) (store bytes : List ℕ) → undivided (openPage budget store .state) bytes .answer ≡ Done
-    → openPage budget store .state ≡ opened budget
+    → openPage budget store .state ≡ freshState budget
 unfolding openPage openAs undivided tests
 open-read budget store bytes a = by (eqb (length store) storeSize) refl a
   where
     by : (t : Bool) → eqb (length store) storeSize ≡ t → undivided (openAs t budget store .state) bytes .answer ≡ Done
-        → openAs t budget store .state ≡ opened budget
+        → openAs t budget store .state ≡ freshState budget
     by true e d = refl
     by false e d =
         let w = openAs false budget store .state in
@@ -117,12 +117,12 @@ end-read x z out rest =
     ∙ take-append-add (x .records) (z .records ++ rest) (length (z .records))
     ∙ ap (λ (l : List ℕ). x .records ++ l) (take-append-seam (z .records) rest)
 
-read-draws : (budget : ℕ) (store bytes out : List ℕ) → undivided (opened budget) bytes .answer ≡ Done
-    → length (undivided (opened budget) bytes .records) ≤ length out
-    → Draws budget store bytes out (endMore (handed (undivided (opened budget) bytes) out))
+read-draws : (budget : ℕ) (store bytes out : List ℕ) → undivided (freshState budget) bytes .answer ≡ Done
+    → length (undivided (freshState budget) bytes .records) ≤ length out
+    → Draws budget store bytes out (endMore (handed (undivided (freshState budget) bytes) out))
 unfolding end readPage endPage allRecords
 read-draws budget store bytes out d m =
-    let x = undivided (opened budget) bytes in
+    let x = undivided (freshState budget) bytes in
     let n = length (x .records) in
     let rest = drop n (x .records ++ drop n out) in
     let z = ending (length rest) (x .state) in
@@ -146,7 +146,7 @@ draws budget store bytes out f h u e = by (f .answer) refl
     left : {a : Answer} → f .answer ≡ a → h ≡ endAfter a f
     left q = e ∙ sym (end-told f q)
 
-    read : (f .answer ≡ Full → ⊥) → openPage budget store .state ≡ opened budget → f ≡ handed (undivided (opened budget) bytes) out
+    read : (f .answer ≡ Full → ⊥) → openPage budget store .state ≡ freshState budget → f ≡ handed (undivided (freshState budget) bytes) out
     read n w = u .notFull n ∙ ap (λ (v : State). handed (undivided v bytes) out) w
 
     by : (a : Answer) → f .answer ≡ a → Draws budget store bytes out h

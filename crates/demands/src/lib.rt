@@ -11,7 +11,8 @@ ghost use lib.ListN.{length, getD};
 ghost use Rattle.rules.specs.declared.Answer.the-variants.{Done};
 ghost use Rattle.rules.specs.Store.{storeSize};
 ghost use Rattle.rules.specs.Expansion.{expansion};
-ghost use Rattle.handing.specs.Handing.{stateLent, handedOf};
+ghost use Rattle.rules.specs.Step.{stateLent};
+ghost use Rattle.handing.specs.Handing.{handedOf};
 ghost use Rattle.demands.specs.Cuts.{lentOf, fedMore, fedCuts, Undivided};
 ghost use Rattle.demands.specs.Pictures.{endMore, endDone, drawnCuts, Draws, DrawnAlike};
 

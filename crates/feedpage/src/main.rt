@@ -10,11 +10,12 @@ use reader::feed::feed_from;
 use reader::number::number_of;
 use reader::open::open;
 use rules::Answer;
+use rules::STORE_SIZE;
 use rules::Session;
 ghost use mathlib.Core.Path.{_≡_};
 ghost use Prim.Native.Nat.{_<_};
-ghost use Rattle.rules.proofs.Feeding.{stepsLeft};
-ghost use Rattle.handing.specs.Handing.{stateLent};
+ghost use Rattle.rules.specs.Reading.{stepsLeft};
+ghost use Rattle.rules.specs.Step.{stateLent};
 ghost use Rattle.reader.specs.Whole.{Whole};
 
 const MOST_ROUNDS: u32 = 1000000;
@@ -76,7 +77,7 @@ fn rounds_asked() -> u32 {
 // Feeds a piece until it is read or a step is refused.
 fn feed_piece(
     session: Session,
-    store: &mut [u8; 8192],
+    store: &mut [u8; STORE_SIZE],
     piece: &[u8],
     out: &mut [u8; 163840],
 ) -> Turn
@@ -100,7 +101,7 @@ fn feed_piece(
 // Reads a piece of standard input. One that has bytes leaves less of the budget where it is read.
 fn read_once(
     session: Session,
-    store: &mut [u8; 8192],
+    store: &mut [u8; STORE_SIZE],
     piece: &mut [u8],
     out: &mut [u8; 163840],
 ) -> Turn
@@ -121,7 +122,7 @@ fn read_once(
 
 fn read_page(
     session: Session,
-    store: &mut [u8; 8192],
+    store: &mut [u8; STORE_SIZE],
     piece: &mut [u8],
     out: &mut [u8; 163840],
 ) -> Turn {
@@ -137,7 +138,7 @@ fn read_page(
 }
 
 // Reads the page once more from its start.
-fn read_again(store: &mut [u8; 8192], piece: &mut [u8], out: &mut [u8; 163840]) -> Turn {
+fn read_again(store: &mut [u8; STORE_SIZE], piece: &mut [u8], out: &mut [u8; 163840]) -> Turn {
     let opened = open(store, u32::MAX);
     let session = opened.session;
     if libc::lseek(STDIN_FILENO, 0, SEEK_SET) != 0 {
@@ -149,7 +150,7 @@ fn read_again(store: &mut [u8; 8192], piece: &mut [u8], out: &mut [u8; 163840]) 
 
 fn read_rounds(
     rounds: u32,
-    store: &mut [u8; 8192],
+    store: &mut [u8; STORE_SIZE],
     piece: &mut [u8],
     out: &mut [u8; 163840],
 ) -> Turn {
@@ -175,7 +176,7 @@ fn byte_at(out: &[u8; 163840], i: usize) -> u8 {
     0
 }
 
-fn end_page(session: Session, store: &[u8; 8192], out: &mut [u8; 163840]) {
+fn end_page(session: Session, store: &[u8; STORE_SIZE], out: &mut [u8; 163840]) {
     let ended = end(session, store, out);
     let answer = ended.answer;
     let session = ended.session;
@@ -190,7 +191,7 @@ fn end_page(session: Session, store: &[u8; 8192], out: &mut [u8; 163840]) {
 }
 
 fn main() {
-    let mut store = [0u8; 8192];
+    let mut store = [0u8; STORE_SIZE];
     let mut piece = [0u8; 65536];
     let mut out = [0u8; 163840];
     let turn = read_rounds(rounds_asked(), &mut store, &mut piece, &mut out);

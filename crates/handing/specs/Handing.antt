@@ -3,13 +3,10 @@ use Prim.Native.Nat.{ℕ}
 use mathlib.Core.List.{List}
 use Rattle.rules.specs.declared.Answer.{Answer}
 use Rattle.rules.specs.declared.Session.{Session}
-use Rattle.rules.specs.Step.{State}
+use Rattle.rules.specs.Step.{stateLent}
 use Rattle.rules.specs.Calls.{Handed}
 use Rattle.handing.specs.declared.Fed.{Fed}
 use Rattle.turns.specs.declared.step.Progress.{Progress}
-
-abbrev pub stateLent : Session → List ℕ → State
-stateLent s st = record { session = s; store = st }
 
 -- With the store and the output that are left
 abbrev pub handedOf : Fed → List ℕ → List ℕ → Handed

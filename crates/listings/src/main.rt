@@ -4,6 +4,7 @@
 use demands::draw_cuts;
 use libc::STDOUT_FILENO;
 use reader::number::number_of;
+use rules::STORE_SIZE;
 ghost use mathlib.Core.Path.{_≡_};
 ghost use Prim.Native.Nat.{_≤_, _<_, min};
 ghost use lib.ListN.{length};
@@ -105,7 +106,7 @@ fn lists(listing: &[u8], records: &[u8], number: u8, steps: u32) -> bool {
 fn agrees(page: &[u8], listing: &[u8], cut: usize, buffer: usize) -> bool
     requires { ⌜ 0 < cut ⌝ }
 {
-    let mut store = [0u8; 8192];
+    let mut store = [0u8; STORE_SIZE];
     let lengths = [cut; CALLS];
     let rooms = [buffer; CALLS];
     let mut out = [0u8; OUTPUT_SIZE];

@@ -7,11 +7,12 @@ use reader::feed::feed_from;
 use reader::number::number_of;
 use reader::open::open;
 use rules::Answer;
+use rules::STORE_SIZE;
 use rules::Session;
 ghost use mathlib.Core.Path.{_≡_};
 ghost use Prim.Native.Nat.{_<_};
-ghost use Rattle.rules.proofs.Feeding.{stepsLeft};
-ghost use Rattle.handing.specs.Handing.{stateLent};
+ghost use Rattle.rules.specs.Reading.{stepsLeft};
+ghost use Rattle.rules.specs.Step.{stateLent};
 ghost use Rattle.reader.specs.Whole.{Whole};
 
 // What follows a piece: the next piece, the end of the page, or nothing, since a read or a write failed.
@@ -47,7 +48,7 @@ fn write_lines(out: &[u8; 4000], written: usize) -> bool {
 }
 
 // Feeds a piece until it is read or a step is refused, and writes the lines of each call's records.
-fn feed_piece(session: Session, store: &mut [u8; 8192], piece: &[u8]) -> Turn
+fn feed_piece(session: Session, store: &mut [u8; STORE_SIZE], piece: &[u8]) -> Turn
     ensures { λ r. ⌜ ((r .next ≡ Next.Failed → ⊥) →
         Whole Next.Read Next.End (stateLent session (now (store .entry))) (now (piece .entry))
         (r .next) (stateLent (r .session) (now (store .exit)))) ⌝ }
@@ -71,7 +72,7 @@ fn feed_piece(session: Session, store: &mut [u8; 8192], piece: &[u8]) -> Turn
 }
 
 // Reads a piece of standard input. One that has bytes leaves less of the budget where it is read.
-fn read_once(session: Session, store: &mut [u8; 8192]) -> Turn
+fn read_once(session: Session, store: &mut [u8; STORE_SIZE]) -> Turn
     ensures { λ r. ⌜ (r .next ≡ Next.Read →
         stepsLeft (stateLent (r .session) (now (store .exit))) < stepsLeft (stateLent session (now (store .entry)))) ⌝ }
 {
@@ -88,7 +89,7 @@ fn read_once(session: Session, store: &mut [u8; 8192]) -> Turn
     feed_piece(session, store, &piece[..n])
 }
 
-fn read_page(session: Session, store: &mut [u8; 8192]) -> Turn {
+fn read_page(session: Session, store: &mut [u8; STORE_SIZE]) -> Turn {
     let mut session = session;
     loop {
         let turn = read_once(session, store);
@@ -100,7 +101,7 @@ fn read_page(session: Session, store: &mut [u8; 8192]) -> Turn {
     }
 }
 
-fn end_page(session: Session, store: &[u8; 8192]) {
+fn end_page(session: Session, store: &[u8; STORE_SIZE]) {
     let mut out = [0u8; 4000];
     let ended = end(session, store, &mut out);
     if !write_lines(&out, ended.written) {
@@ -114,7 +115,7 @@ fn end_page(session: Session, store: &[u8; 8192]) {
 }
 
 fn main() {
-    let mut store = [0u8; 8192];
+    let mut store = [0u8; STORE_SIZE];
     let opened = open(&mut store, u32::MAX);
     let session = opened.session;
     let turn = read_page(session, &mut store);

@@ -19,7 +19,7 @@ use Rattle.rules.specs.Record.{bytesOfAll}
 use Rattle.rules.specs.Bodies.{bytesLeft, mostDepth}
 use Rattle.rules.specs.Coding.{unfinished}
 use Rattle.rules.specs.Drawing.{Outcome, NotDrawn, Draw, act, isOpen}
-use Rattle.rules.specs.Step.{State}
+use Rattle.rules.specs.Step.{State, stateLent}
 use Rattle.rules.specs.Ranges.{placesFit, bodiesFit}
 use Rattle.rules.specs.Reading.{Reading, roomForStep, rests, halts, tests}
 use Rattle.rules.specs.Calls.{handed, ended, endChecks, ending, end}
@@ -31,7 +31,6 @@ use Rattle.figures.specs.declared.Drawn.{Drawn}
 use Rattle.figures.specs.Carried.{Carried, carry, drawingOf, carriedOf}
 use Rattle.drawing.proofs.Refusals.{OnlyVertices}
 use Rattle.reader.specs.declared.end.Ended.{Ended as End}
-use Rattle.handing.specs.Handing.{stateLent}
 use Rattle.reader.specs.Ending.{endingOf, sessionWith}
 
 -- From the answer of closing: refused, the session is stopped with 9 and the output left; else the session is ended

@@ -14,12 +14,12 @@ use Rattle.rules.specs.declared.Verdict.{Verdict}
 use Rattle.rules.specs.declared.Verdict.the-variants.{Passes, Fails}
 use Rattle.rules.specs.declared.Answer.the-variants.{Refused}
 use Rattle.rules.specs.Reading.{Room, reading, tests}
-use Rattle.rules.specs.Step.{State}
+use Rattle.rules.specs.Step.{State, stateLent}
 use Rattle.rules.specs.Calls.{handed, feed, unread}
 use Rattle.rules.proofs.Steps.{Valid, tests-valid}
 use Rattle.rules.proofs.Readings.{reads-failed, reads-passed}
 use Rattle.handing.specs.declared.Fed.{Fed}
-use Rattle.handing.specs.Handing.{stateLent, handedOf}
+use Rattle.handing.specs.Handing.{handedOf}
 use Rattle.reader.specs.Promises.{Feeds}
 
 -- Feed: what is lent fails a test and is handed back, or passes them and is read

@@ -7,14 +7,13 @@ use lib.ListN.{length, drop, length-drop}
 use lib.Seq.{drop-drop}
 use Rattle.rules.specs.declared.Answer.{Answer}
 use Rattle.rules.specs.declared.Answer.the-variants.{Done, Full, Refused}
-use Rattle.rules.specs.Step.{State}
-use Rattle.rules.specs.Reading.{Reading, roomForStep, undivided}
+use Rattle.rules.specs.Step.{State, stateLent}
+use Rattle.rules.specs.Reading.{Reading, roomForStep, undivided, stepsLeft}
 use Rattle.rules.specs.Calls.{Handed, feed, unread, Lent, feeds}
 use Rattle.rules.proofs.CallLaws.{feed-kept}
 use Rattle.rules.proofs.Cutting.{cutting}
-use Rattle.rules.proofs.Feeding.{full-goes-on, stepsLeft, full-leaves-less, done-leaves-less}
+use Rattle.rules.proofs.Feeding.{full-goes-on, full-leaves-less, done-leaves-less}
 use Rattle.handing.specs.declared.Fed.{Fed}
-use Rattle.handing.specs.Handing.{stateLent}
 use Rattle.reader.specs.Promises.{Feeds}
 use Rattle.reader.specs.Whole.{Follows, Whole}
 

@@ -5,7 +5,7 @@ use Rattle.rules.specs.declared.Drawing.{Drawing}
 use Rattle.rules.specs.declared.Session.{Session}
 use Rattle.rules.specs.declared.Status.{Status}
 use Rattle.rules.specs.Calls.{Handed}
-use Rattle.handing.specs.Handing.{stateLent}
+use Rattle.rules.specs.Step.{stateLent}
 use Rattle.reader.specs.declared.end.Ended.{Ended}
 
 -- End consumes nothing and leaves the store

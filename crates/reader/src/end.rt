@@ -26,7 +26,7 @@ ghost use Rattle.rules.specs.Calls.{handed, ended, ending};
 ghost use Rattle.rules.specs.Reading.{roomForStep};
 ghost use Rattle.rules.proofs.RecordCount.{closed};
 ghost use Rattle.rules.proofs.Steps.{Valid};
-ghost use Rattle.handing.specs.Handing.{stateLent};
+ghost use Rattle.rules.specs.Step.{stateLent};
 ghost use Rattle.reader.specs.Ending.{endingOf, sessionWith};
 ghost use Rattle.reader.specs.Promises.{Ends};
 

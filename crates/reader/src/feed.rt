@@ -7,7 +7,7 @@ use rules::Session;
 use rules::Verdict;
 use verdict::verdict;
 ghost use Rattle.rules.specs.Calls.{unread};
-ghost use Rattle.handing.specs.Handing.{stateLent};
+ghost use Rattle.rules.specs.Step.{stateLent};
 ghost use Rattle.reader.specs.Promises.{Feeds};
 
 // Reads a piece as far as the output has room: consumed counts its bytes read, written those of the records. A piece that is not

@@ -17,7 +17,7 @@ use Rattle.rules.specs.declared.Point.{Point}
 use Rattle.rules.specs.declared.Refusal.the-variants.{TooManyVertices}
 use Rattle.rules.specs.declared.Session.{Session}
 use Rattle.rules.specs.declared.Status.{Status}
-use Rattle.rules.specs.Step.{State}
+use Rattle.rules.specs.Step.{State, stateLent}
 use Rattle.rules.specs.Drawing.{noOperand, act}
 use Rattle.rules.specs.Reading.{Room, roomForStep, reading}
 use Rattle.rules.specs.Calls.{handed}
@@ -31,7 +31,7 @@ use Rattle.turns.specs.declared.step.Turned.{Turned}
 use Rattle.handing.specs.declared.Fed.{Fed}
 use Rattle.turns.specs.Turn.{turn, Left, leaves}
 use Rattle.turns.specs.View.{stateAt, answered, sessionAfter, leftOf, startOf, atDepth, writtenTo, DrawDueBy, DrawDue, RoomBy, readOnIf}
-use Rattle.handing.specs.Handing.{stateLent, handedOf, fedOf}
+use Rattle.handing.specs.Handing.{handedOf, fedOf}
 use Rattle.runs.specs.Strokes.{penAfter}
 use Rattle.advance.specs.Walk.{placeAfter, ranOn}
 use Rattle.turns.proofs.StepLaws.{draw-refused, draw-goes}

@@ -21,7 +21,8 @@ ghost use lib.ListN.{length};
 ghost use Rattle.rules.specs.Reading.{Room, reading};
 ghost use Rattle.rules.specs.Calls.{handed};
 ghost use Rattle.rules.proofs.Steps.{Valid};
-ghost use Rattle.handing.specs.Handing.{stateLent, handedOf};
+ghost use Rattle.rules.specs.Step.{stateLent};
+ghost use Rattle.handing.specs.Handing.{handedOf};
 
 // The turns of a reading, until one ends it.
 pub fn read(session: Session, store: &mut [u8], piece: &[u8], out: &mut [u8]) -> Fed

@@ -14,7 +14,7 @@ use Rattle.rules.specs.declared.Answer.the-variants.{Done, Full, Refused
 use Rattle.rules.specs.declared.Verdict.{Verdict}
 use Rattle.rules.specs.declared.Verdict.the-variants.{Passes, Fails}
 use Rattle.rules.specs.Step.{State, removeSpent, Source, NothingLeft, Found, seek, Goes, interpret}
-use Rattle.rules.specs.Reading.{Reading, Limit, Room, Always, roomForStep, reading, tests, readTo, undivided}
+use Rattle.rules.specs.Reading.{Reading, Limit, Room, Always, roomForStep, reading, tests, stepsLeft, readTo, undivided}
 use Rattle.rules.specs.Calls.{feed, unread, handed, Lent, returned, join, feeds, lentBytes}
 use Rattle.rules.proofs.Bools.{false-true}
 use Rattle.rules.proofs.Steps.{seek-rest, Valid, tests-valid, Later, later-tests, later-then, remove-later, step-later}
@@ -73,9 +73,6 @@ full-goes-on w bs out a = by (tests w) refl
     by Passes t = onward t (first-follows w [] c t)
 
 -- What is left of the budget
-
-abbrev pub stepsLeft : State → ℕ
-stepsLeft w = w .session .budget - w .session .steps
 
 abbrev NotRefused : Answer → Type 0
 NotRefused a = (r : Refusal) → a ≡ Refused r → ⊥

@@ -2,8 +2,8 @@ use denote.Ref.{now}
 use borrow.Author.Needs.{needs}
 use native.Mathlib.Omega.{arith}
 use mathlib.Core.Path.{_≡_, refl, sym, subst}
-use Rattle.rules.proofs.Feeding.{stepsLeft}
-use Rattle.handing.specs.Handing.{stateLent}
+use Rattle.rules.specs.Reading.{stepsLeft}
+use Rattle.rules.specs.Step.{stateLent}
 use Rattle.reader.specs.Whole.{Follows}
 use Rattle.reader.proofs.WholeLaws.{Goes, goes-first, goes-within, goes-on, goes-less, goes-whole}
 use Rattle.feedpage.proofs.feed_piece.Statement.{statement}

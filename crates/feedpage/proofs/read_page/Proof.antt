@@ -1,8 +1,8 @@
 use borrow.Author.Needs.{needs}
 use mathlib.Core.Path.{_≡_}
 use lib.ListN.{length}
-use Rattle.rules.proofs.Feeding.{stepsLeft}
-use Rattle.handing.specs.Handing.{stateLent}
+use Rattle.rules.specs.Reading.{stepsLeft}
+use Rattle.rules.specs.Step.{stateLent}
 use Rattle.feedpage.proofs.read_page.Statement.{statement}
 use Rattle.feedpage.proofs.read_page.Tie as tie
 

@@ -1,6 +1,6 @@
 use borrow.Author.Needs.{needs}
-use Rattle.rules.proofs.Feeding.{stepsLeft}
-use Rattle.handing.specs.Handing.{stateLent}
+use Rattle.rules.specs.Reading.{stepsLeft}
+use Rattle.rules.specs.Step.{stateLent}
 use Rattle.pagelist.proofs.read_page.Statement.{statement}
 use Rattle.pagelist.proofs.read_page.Tie as tie
 
