@@ -1,15 +1,14 @@
 -- A page opened, read by feed calls and ended
 use Prim.Native.Nat.{ℕ, _+_, _-_, _≤_}
 use native.Mathlib.Omega.{arith}
-use mathlib.Core.Path.{_≡_, refl, sym, ap, ap₂, _∙_, subst}
+use mathlib.Core.Path.{_≡_, refl, sym, ap, _∙_, subst}
 use mathlib.Core.Bool.{Bool, true, false, _&&_}
 use mathlib.Core.List.{List, _++_, append-nil}
-use lib.ListN.{length, take, drop, length-append, length-take, length-drop, drop-of-length-le}
+use lib.ListN.{length, take, drop, length-take, length-drop, drop-of-length-le}
 use lib.Seq.{take-append-seam, drop-append-seam, take-append-add, take-all}
 use lib.Dec.{ltb, eqb}
 use borrow.Author.Tests.{eq-eqb}
 use borrow.Rule.Slice.PartMut.{putMid}
-use Rattle.rules.specs.declared.Refusal.{Refusal}
 use Rattle.rules.specs.declared.Refusal.the-variants.{StoreSize}
 use Rattle.rules.specs.declared.Answer.{Answer}
 use Rattle.rules.specs.declared.Answer.the-variants.{Done, Full, Refused}
@@ -23,7 +22,7 @@ use Rattle.rules.specs.Ranges.{fits}
 use Rattle.rules.specs.Step.{State, stateLent}
 use Rattle.rules.specs.Reading.{Reading, Always, roomForStep, verdict, tests, undivided}
 use Rattle.rules.specs.Calls.{Opening, freshState, openAs, openPage, Handed, handed, ending, endChecks, end}
-use Rattle.rules.specs.Expansion.{expansion, readPage, endPage, Accepted, allRecords, SameState}
+use Rattle.rules.specs.Expansion.{expansion, readPage, endPage, allRecords, SameState}
 use Rattle.rules.proofs.Readings.{full-done, refused-done, refused-full, reads-failed}
 use Rattle.rules.proofs.CallLaws.{end-kept}
 use Rattle.rules.proofs.Demand3.{end-room}
@@ -34,7 +33,7 @@ use Rattle.reader.specs.declared.open.Opened.{Opened}
 use Rattle.reader.specs.declared.end.Ended.{Ended}
 use Rattle.reader.specs.Promises.{Opens, Ends}
 use Rattle.demands.specs.Cuts.{lentOf, fedCuts, Undivided}
-use Rattle.demands.specs.Pictures.{endMore, endAfter, endDone, drawnCuts, recordsOf, NotRefused, Draws, DrawnAlike}
+use Rattle.demands.specs.Pictures.{endMore, endAfter, endDone, drawnCuts, NotRefused, Draws, DrawnAlike}
 
 -- Of end's promise, at the rest of the output
 

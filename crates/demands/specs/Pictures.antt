@@ -7,7 +7,6 @@ use Rattle.rules.specs.declared.Refusal.{Refusal}
 use Rattle.rules.specs.declared.Answer.{Answer}
 use Rattle.rules.specs.declared.Answer.the-variants.{Done, Full, Refused}
 use Rattle.rules.specs.Store.{storeSize}
-use Rattle.rules.specs.Step.{State}
 use Rattle.rules.specs.Calls.{openPage, Handed, end}
 use Rattle.rules.specs.Expansion.{expansion, endPage, Accepted, allRecords, SameState}
 use Rattle.demands.specs.Cuts.{fedCuts}

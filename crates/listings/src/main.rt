@@ -101,8 +101,8 @@ fn lists(listing: &[u8], records: &[u8], number: u8, steps: u32) -> bool {
 }
 
 // Whether a page, read in pieces of `cut` bytes into buffers of `buffer` bytes, gives its listing. A call for each piece and for
-// each record is enough, since one that answers full wrote a record. Calls that are too few, or records that do not fit, end full,
-// and no listing says so.
+// each record is enough, since one that answers full wrote a record. Were they too few, or had the records no room, the last answer
+// would be full, which no listing has.
 fn agrees(page: &[u8], listing: &[u8], cut: usize, buffer: usize) -> bool
     requires { ⌜ 0 < cut ⌝ }
 {
