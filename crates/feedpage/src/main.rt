@@ -98,7 +98,7 @@ fn feed_piece(
     }
 }
 
-// Reads a piece of standard input. One that has bytes leaves less of the budget where it is read.
+// Feeds a piece of standard input. One that is read has bytes, so less of the budget is left, and the loop over pieces ends.
 fn read_once(
     session: Session,
     store: &mut [u8; STORE_SIZE],

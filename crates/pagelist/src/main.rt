@@ -71,7 +71,7 @@ fn feed_piece(session: Session, store: &mut [u8; STORE_SIZE], piece: &[u8]) -> T
     }
 }
 
-// Reads a piece of standard input. One that has bytes leaves less of the budget where it is read.
+// Feeds a piece of standard input. One that is read has bytes, so less of the budget is left, and the loop over pieces ends.
 fn read_once(session: Session, store: &mut [u8; STORE_SIZE]) -> Turn
     ensures { λ r. ⌜ (r .next ≡ Next.Read →
         stepsLeft (stateLent (r .session) (now (store .exit))) < stepsLeft (stateLent session (now (store .entry)))) ⌝ }

@@ -41,15 +41,18 @@ module _ {w : State} {piece : List ℕ} {at : ℕ} {v : State} {out : List ℕ} 
   answered : r .answer ≡ feed v (unread piece at) out .answer
   answered = ap (λ (h : Handed). h .answer) (f .same)
 
+  -- What is unread after it, from the state that it left
+  rest : undivided (stateLent (r .session) left) (unread piece (at + r .consumed))
+      ≡ undivided (feed v (unread piece at) out .state) (unread (unread piece at) (feed v (unread piece at) out .consumed))
+  unfolding unread
+  rest =
+      ap₂ undivided (ap (λ (h : Handed). h .state) (f .same))
+      (sym (drop-drop (r .consumed) at piece) ∙ ap (λ (h : Handed). drop (h .consumed) (drop at piece)) (f .same))
+
   -- Where it ends full, the next goes on from the bytes it consumed
   pub goes-on : r .answer ≡ Full → Goes w piece (at + r .consumed) (stateLent (r .session) left)
-  unfolding unread
   goes-on a =
-      let fed = feed v (drop at piece) out in
-      let on = full-goes-on v (drop at piece) out (sym answered ∙ a) in
-      let rest : undivided (stateLent (r .session) left) (drop (at + r .consumed) piece) ≡ undivided (fed .state) (drop (fed .consumed) (drop at piece)) =
-      ap₂ undivided (ap (λ (h : Handed). h .state) (f .same))
-      (sym (drop-drop (r .consumed) at piece) ∙ ap (λ (h : Handed). drop (h .consumed) (drop at piece)) (f .same)) in
+      let on = full-goes-on v (unread piece at) out (sym answered ∙ a) in
       record {
         within = goes-within;
         state = ap (λ (x : Reading). x .state) rest ∙ sym (ap (λ (x : Reading). x .state) on) ∙ g .state;

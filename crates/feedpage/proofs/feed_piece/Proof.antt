@@ -1,10 +1,8 @@
-use denote.Ref.{now}
 use borrow.Author.Needs.{needs}
 use native.Mathlib.Omega.{arith}
-use mathlib.Core.Path.{_≡_, refl, sym, subst}
+use mathlib.Core.Path.{refl}
 use Rattle.rules.specs.Reading.{stepsLeft}
 use Rattle.rules.specs.Step.{stateLent}
-use Rattle.reader.specs.Whole.{Follows}
 use Rattle.reader.proofs.WholeLaws.{Goes, goes-first, goes-within, goes-on, goes-less, goes-whole}
 use Rattle.feedpage.proofs.feed_piece.Statement.{statement}
 use Rattle.feedpage.proofs.feed_piece.Tie as tie
@@ -33,7 +31,7 @@ returns c =
     let loop· = c .before .before .before .before .before .before .before .loop in
     let feed-from· = c .before .before .before .before .feed-from in
     let enum-told· = c .before .enum-told in
-    rw (turn-to· .ensures) (goes-whole (loop· .inv) (feed-from· .ensures) (rw (enum-told· .given .1)))
+    rw (turn-to· .ensures) (goes-whole (loop· .inv) (feed-from· .ensures) (rw (enum-told· .given .1) refl))
 
 enum-told-2 : tie.Need-enum-told-2 Inv-loop μ-loop
 enum-told-2 c = search needs
@@ -47,7 +45,7 @@ returns-2 c =
     let loop· = c .before .before .before .before .before .before .before .loop in
     let feed-from· = c .before .before .before .before .feed-from in
     let enum-told2· = c .before .enum-told2 in
-    rw (turn-to2· .ensures) (goes-whole (loop· .inv) (feed-from· .ensures) (rw (enum-told2· .given .1)))
+    rw (turn-to2· .ensures) (goes-whole (loop· .inv) (feed-from· .ensures) (rw (enum-told2· .given .1) refl))
 
 enum-told-3 : tie.Need-enum-told-3 Inv-loop μ-loop
 enum-told-3 c = search needs

@@ -1,6 +1,6 @@
 use borrow.Author.Needs.{needs}
 use native.Mathlib.Omega.{arith}
-use mathlib.Core.Path.{_≡_, ap}
+use mathlib.Core.Path.{_≡_, refl, ap}
 use lib.ListN.{length}
 use Rattle.rules.specs.Reading.{stepsLeft}
 use Rattle.rules.specs.Step.{stateLent}
@@ -48,7 +48,7 @@ returns-2 c =
     let loop· = c .before .before .before .before .before .before .before .before .before .before .before .loop in
     let feed-from· = c .before .before .before .before .before .before .before .before .feed-from in
     let enum-told· = c .before .enum-told in
-    λ f. rw (turn-to2· .ensures) (goes-whole (loop· .inv .1) (feed-from· .ensures) (rw (enum-told· .given .1)))
+    λ f. rw (turn-to2· .ensures) (goes-whole (loop· .inv .1) (feed-from· .ensures) (rw (enum-told· .given .1) refl))
 
 enum-told-2 : tie.Need-enum-told-2 Inv-loop μ-loop
 enum-told-2 c = search needs
@@ -62,7 +62,7 @@ returns-3 c =
     let loop· = c .before .before .before .before .before .before .before .before .before .before .before .loop in
     let feed-from· = c .before .before .before .before .before .before .before .before .feed-from in
     let enum-told2· = c .before .enum-told2 in
-    λ f. rw (turn-to3· .ensures) (goes-whole (loop· .inv .1) (feed-from· .ensures) (rw (enum-told2· .given .1)))
+    λ f. rw (turn-to3· .ensures) (goes-whole (loop· .inv .1) (feed-from· .ensures) (rw (enum-told2· .given .1) refl))
 
 enum-told-3 : tie.Need-enum-told-3 Inv-loop μ-loop
 enum-told-3 c = search needs
