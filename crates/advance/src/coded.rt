@@ -55,8 +55,14 @@ fn call_piece(
     firsts: &[u8; 96],
     piece: &[u8],
 ) -> Progress
-    requires { ⌜ (progress .depth ≡ 0) × (progress .waiting ≡ Waiting.Nothing) × (setOf (progress .sets .used) (progress .sets) ≡ Set.Macro) × (progress .at ≤ to) × (to ≤ length (now piece)) × (progress .steps + (to - progress .at) ≤ 4294967295) ⌝ }
-    ensures walk { λ r. ⌜ ((budget : ℕ) (d : Drawing) (st out : List ℕ) → to - progress .at ≤ budget - progress .steps → roomForStep ≤ length out - progress .written → Walk (now (piece .entry)) (placeAt budget progress (now (cells .entry)) (now (places .entry)) (now (firsts .entry)) d st out) (placeAt budget r (now (cells .exit)) (now (places .exit)) (now (firsts .entry)) d st out)) ⌝ }
+    requires { ⌜ (progress .depth ≡ 0) × (progress .waiting ≡ Waiting.Nothing)
+        × (setOf (progress .sets .used) (progress .sets) ≡ Set.Macro) × (progress .at ≤ to) × (to ≤ length (now piece))
+        × (progress .steps + (to - progress .at) ≤ 4294967295) ⌝ }
+    ensures walk { λ r. ⌜ ((budget : ℕ) (d : Drawing) (st out : List ℕ) → to - progress .at ≤ budget - progress .steps
+        → roomForStep ≤ length out - progress .written
+        → Walk (now (piece .entry))
+        (placeAt budget progress (now (cells .entry)) (now (places .entry)) (now (firsts .entry)) d st out)
+        (placeAt budget r (now (cells .exit)) (now (places .exit)) (now (firsts .entry)) d st out)) ⌝ }
     ensures most { λ r. ⌜ r .steps - progress .steps ≤ to - progress .at ⌝ }
 {
     let at = progress.at;
@@ -78,8 +84,13 @@ fn idle_piece(
     store: &mut [u8],
     piece: &[u8],
 ) -> Progress
-    requires { ⌜ (progress .depth ≡ 0) × (Sized (now store)) × (waitingFits (progress .waiting) ≡ true) × (progress .at ≤ to) × (to ≤ length (now piece)) × (progress .steps + (to - progress .at) ≤ 4294967295) ⌝ }
-    ensures walk { λ r. ⌜ ((budget : ℕ) (cells places : List ℕ) (d : Drawing) (out : List ℕ) → to - progress .at ≤ budget - progress .steps → roomForStep ≤ length out - progress .written → Walk (now (piece .entry)) (placeAt budget progress cells places (now (firsts .entry)) d (now (store .entry)) out) (placeAt budget r cells places (now (firsts .exit)) d (now (store .exit)) out)) ⌝ }
+    requires { ⌜ (progress .depth ≡ 0) × (Sized (now store)) × (waitingFits (progress .waiting) ≡ true) × (progress .at ≤ to)
+        × (to ≤ length (now piece)) × (progress .steps + (to - progress .at) ≤ 4294967295) ⌝ }
+    ensures walk { λ r. ⌜ ((budget : ℕ) (cells places : List ℕ) (d : Drawing) (out : List ℕ) → to - progress .at ≤ budget - progress .steps
+        → roomForStep ≤ length out - progress .written
+        → Walk (now (piece .entry))
+        (placeAt budget progress cells places (now (firsts .entry)) d (now (store .entry)) out)
+        (placeAt budget r cells places (now (firsts .exit)) d (now (store .exit)) out)) ⌝ }
     ensures most { λ r. ⌜ r .steps - progress .steps ≤ to - progress .at ⌝ }
 {
     let at = progress.at;
@@ -100,8 +111,13 @@ fn names_piece(
     firsts: &[u8; 96],
     piece: &[u8],
 ) -> Progress
-    requires { ⌜ (progress .depth ≡ 0) × (progress .waiting ≡ Waiting.Nothing) × (progress .at ≤ to) × (to ≤ length (now piece)) × (progress .steps + (to - progress .at) ≤ 4294967295) ⌝ }
-    ensures walk { λ r. ⌜ ((budget : ℕ) (d : Drawing) (st out : List ℕ) → to - progress .at ≤ budget - progress .steps → roomForStep ≤ length out - progress .written → Walk (now (piece .entry)) (placeAt budget progress (now (cells .entry)) (now (places .entry)) (now (firsts .entry)) d st out) (placeAt budget r (now (cells .exit)) (now (places .exit)) (now (firsts .entry)) d st out)) ⌝ }
+    requires { ⌜ (progress .depth ≡ 0) × (progress .waiting ≡ Waiting.Nothing) × (progress .at ≤ to) × (to ≤ length (now piece))
+        × (progress .steps + (to - progress .at) ≤ 4294967295) ⌝ }
+    ensures walk { λ r. ⌜ ((budget : ℕ) (d : Drawing) (st out : List ℕ) → to - progress .at ≤ budget - progress .steps
+        → roomForStep ≤ length out - progress .written
+        → Walk (now (piece .entry))
+        (placeAt budget progress (now (cells .entry)) (now (places .entry)) (now (firsts .entry)) d st out)
+        (placeAt budget r (now (cells .exit)) (now (places .exit)) (now (firsts .entry)) d st out)) ⌝ }
     ensures most { λ r. ⌜ r .steps - progress .steps ≤ to - progress .at ⌝ }
 {
     if let Set::Macro = set_read(progress) {
@@ -122,7 +138,11 @@ fn code_piece(
     piece: &[u8],
 ) -> Progress
     requires { ⌜ (Sized (now store)) × (waitingFits (progress .waiting) ≡ true) × (progress .at ≤ length (now piece)) ⌝ }
-    ensures walk { λ r. ⌜ ((d : Drawing) (out : List ℕ) → free ≡ length out - progress .written → Walk (now (piece .entry)) (placeAt budget progress (now (cells .entry)) (now (places .entry)) (now (firsts .entry)) d (now (store .entry)) out) (placeAt budget r (now (cells .exit)) (now (places .exit)) (now (firsts .exit)) d (now (store .exit)) out)) ⌝ }
+    ensures walk { λ r. ⌜ ((d : Drawing) (out : List ℕ) → free ≡ length out - progress .written
+        → Walk (now (piece .entry))
+        (placeAt budget progress (now (cells .entry)) (now (places .entry)) (now (firsts .entry)) d (now (store .entry))
+        out)
+        (placeAt budget r (now (cells .exit)) (now (places .exit)) (now (firsts .exit)) d (now (store .exit)) out)) ⌝ }
     ensures most { λ r. ⌜ r .steps - progress .steps ≤ budget - progress .steps ⌝ }
 {
     if progress.depth != 0 {
@@ -154,8 +174,13 @@ pub fn run_coded(
     store: &mut [u8],
     piece: &[u8],
 ) -> Progress
-    requires { ⌜ (Sized (now store)) × (progress .depth ≤ 8) × (waitingFits (progress .waiting) ≡ true) × (progress .at ≤ length (now piece)) ⌝ }
-    ensures walk { λ r. ⌜ ((d : Drawing) (out : List ℕ) → free ≡ length out - progress .written → Walk (now (piece .entry)) (placeAt budget progress (now (cells .entry)) (now (places .entry)) (now (firsts .entry)) d (now (store .entry)) out) (placeAt budget r (now (cells .exit)) (now (places .exit)) (now (firsts .exit)) d (now (store .exit)) out)) ⌝ }
+    requires { ⌜ (Sized (now store)) × (progress .depth ≤ 8) × (waitingFits (progress .waiting) ≡ true)
+        × (progress .at ≤ length (now piece)) ⌝ }
+    ensures walk { λ r. ⌜ ((d : Drawing) (out : List ℕ) → free ≡ length out - progress .written
+        → Walk (now (piece .entry))
+        (placeAt budget progress (now (cells .entry)) (now (places .entry)) (now (firsts .entry)) d (now (store .entry))
+        out)
+        (placeAt budget r (now (cells .exit)) (now (places .exit)) (now (firsts .exit)) d (now (store .exit)) out)) ⌝ }
     ensures most { λ r. ⌜ r .steps - progress .steps ≤ budget - progress .steps ⌝ }
 {
     let depth = depth_left(store, cells, places, progress.depth);

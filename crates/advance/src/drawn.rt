@@ -54,8 +54,11 @@ fn draw_pdi(
     out: &mut [u8],
     at: usize,
 ) -> Ran
-    requires { ⌜ (domainFits (look .domain) ≡ true) × (commandFits command ≡ true) × (from ≤ to) × (to ≤ length (now bytes)) × (at ≤ length (now out)) ⌝ }
-    ensures ran { λ r. ⌜ ((m : List ℕ) → Run Set.Pdi (now (bytes .entry)) from (standing pen command look m at (now (out .entry))) (r .count) (standing (r .pen) (r .command) look m (r .at) (now (out .exit)))) ⌝ }
+    requires { ⌜ (domainFits (look .domain) ≡ true) × (commandFits command ≡ true) × (from ≤ to) × (to ≤ length (now bytes))
+        × (at ≤ length (now out)) ⌝ }
+    ensures ran { λ r. ⌜ ((m : List ℕ)
+        → Run Set.Pdi (now (bytes .entry)) from (standing pen command look m at (now (out .entry))) (r .count)
+        (standing (r .pen) (r .command) look m (r .at) (now (out .exit)))) ⌝ }
     ensures most { λ r. ⌜ from + r .count ≤ to ⌝ }
 {
     if pen.operand.count != 0 {
@@ -77,7 +80,9 @@ fn draw_text(
     at: usize,
 ) -> Ran
     requires { ⌜ (from ≤ to) × (to ≤ length (now bytes)) × (at ≤ length (now out)) ⌝ }
-    ensures ran { λ r. ⌜ ((m : List ℕ) → Run (Set.Characters repertoire) (now (bytes .entry)) from (standing pen command look m at (now (out .entry))) (r .count) (standing (r .pen) (r .command) look m (r .at) (now (out .exit)))) ⌝ }
+    ensures ran { λ r. ⌜ ((m : List ℕ)
+        → Run (Set.Characters repertoire) (now (bytes .entry)) from (standing pen command look m at (now (out .entry)))
+        (r .count) (standing (r .pen) (r .command) look m (r .at) (now (out .exit)))) ⌝ }
     ensures most { λ r. ⌜ from + r .count ≤ to ⌝ }
 {
     if command.opcode != 0 {
@@ -98,8 +103,11 @@ fn draw_set(
     out: &mut [u8],
     at: usize,
 ) -> Ran
-    requires { ⌜ (domainFits (look .domain) ≡ true) × (commandFits command ≡ true) × (from ≤ to) × (to ≤ length (now bytes)) × (at ≤ length (now out)) ⌝ }
-    ensures ran { λ r. ⌜ ((m : List ℕ) → Run set (now (bytes .entry)) from (standing pen command look m at (now (out .entry))) (r .count) (standing (r .pen) (r .command) look m (r .at) (now (out .exit)))) ⌝ }
+    requires { ⌜ (domainFits (look .domain) ≡ true) × (commandFits command ≡ true) × (from ≤ to) × (to ≤ length (now bytes))
+        × (at ≤ length (now out)) ⌝ }
+    ensures ran { λ r. ⌜ ((m : List ℕ)
+        → Run set (now (bytes .entry)) from (standing pen command look m at (now (out .entry))) (r .count)
+        (standing (r .pen) (r .command) look m (r .at) (now (out .exit)))) ⌝ }
     ensures most { λ r. ⌜ from + r .count ≤ to ⌝ }
 {
     match set {
@@ -138,7 +146,8 @@ fn stretch_next(
     piece: &[u8],
 ) -> Stretch
     requires { ⌜ (Sized (now store)) × (progress .depth ≤ 8) × (progress .at ≤ length (now piece)) ⌝ }
-    ensures { λ r. ⌜ Lies (progress .depth) (progress .at) (now (cells .entry)) (now (places .entry)) (now (store .entry)) (now (piece .entry)) (r .from) (r .to) ⌝ }
+    ensures { λ r. ⌜ Lies (progress .depth) (progress .at) (now (cells .entry)) (now (places .entry)) (now (store .entry))
+        (now (piece .entry)) (r .from) (r .to) ⌝ }
 {
     if progress.depth == 0 {
         return Stretch {
@@ -159,7 +168,8 @@ fn bytes_next(
     piece: &[u8],
 ) -> Stretch
     requires { ⌜ (Sized (now store)) × (progress .depth ≤ 8) × (progress .at ≤ length (now piece)) ⌝ }
-    ensures lies { λ r. ⌜ Lies (progress .depth) (progress .at) (now (cells .entry)) (now (places .entry)) (now (store .entry)) (now (piece .entry)) (r .from) (r .to) ⌝ }
+    ensures lies { λ r. ⌜ Lies (progress .depth) (progress .at) (now (cells .entry)) (now (places .entry)) (now (store .entry))
+        (now (piece .entry)) (r .from) (r .to) ⌝ }
     ensures few { λ r. ⌜ r .to - r .from ≤ budget - progress .steps ⌝ }
 {
     let stretch = stretch_next(progress, cells, places, store, piece);
@@ -243,7 +253,12 @@ pub fn run_strokes<'a>(
     out: &mut [u8],
 ) -> Lined
     requires { ⌜ Fit progress (now store) (now piece) (now out) ⌝ }
-    ensures walk { λ r. ⌜ ((firsts map : List ℕ) → Walk (now (piece .entry)) (placeAt budget progress (now (cells .entry)) (now (places .entry)) firsts (drawingOf pen command look map) (now (store .entry)) (now (out .entry))) (placeAt budget (ranOn (r .count) (r .at) progress) (now (cells .entry)) (now (places .exit)) firsts (drawingOf (penAfter (r .count) pen (r .point)) command look map) (now (store .entry)) (now (out .exit)))) ⌝ }
+    ensures walk { λ r. ⌜ ((firsts map : List ℕ)
+        → Walk (now (piece .entry))
+        (placeAt budget progress (now (cells .entry)) (now (places .entry)) firsts (drawingOf pen command look map)
+        (now (store .entry)) (now (out .entry)))
+        (placeAt budget (ranOn (r .count) (r .at) progress) (now (cells .entry)) (now (places .exit)) firsts
+        (drawingOf (penAfter (r .count) pen (r .point)) command look map) (now (store .entry)) (now (out .exit)))) ⌝ }
     ensures most { λ r. ⌜ Most (r .count) budget progress (now (piece .entry)) ⌝ }
     ensures still { λ r. ⌜ (r .count ≡ 0 → r .at ≡ progress .written) ⌝ }
 {
@@ -275,7 +290,12 @@ pub fn run_drawn<'a>(
     out: &mut [u8],
 ) -> Ran
     requires { ⌜ (Fit progress (now store) (now piece) (now out)) × (domainFits (look .domain) ≡ true) × (commandFits command ≡ true) ⌝ }
-    ensures walk { λ r. ⌜ ((firsts map : List ℕ) → Walk (now (piece .entry)) (placeAt budget progress (now (cells .entry)) (now (places .entry)) firsts (drawingOf pen command look map) (now (store .entry)) (now (out .entry))) (placeAt budget (ranOn (r .count) (r .at) progress) (now (cells .entry)) (now (places .exit)) firsts (drawingOf (r .pen) (r .command) look map) (now (store .entry)) (now (out .exit)))) ⌝ }
+    ensures walk { λ r. ⌜ ((firsts map : List ℕ)
+        → Walk (now (piece .entry))
+        (placeAt budget progress (now (cells .entry)) (now (places .entry)) firsts (drawingOf pen command look map)
+        (now (store .entry)) (now (out .entry)))
+        (placeAt budget (ranOn (r .count) (r .at) progress) (now (cells .entry)) (now (places .exit)) firsts
+        (drawingOf (r .pen) (r .command) look map) (now (store .entry)) (now (out .exit)))) ⌝ }
     ensures most { λ r. ⌜ Most (r .count) budget progress (now (piece .entry)) ⌝ }
     ensures still { λ r. ⌜ (r .count ≡ 0 → (r .at ≡ progress .written) × (r .pen ≡ pen) × (r .command ≡ command)) ⌝ }
 {

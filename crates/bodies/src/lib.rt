@@ -63,7 +63,8 @@ pub fn innermost(store: &[u8], cells: &[u8; 8], places: &[u8; 8], depth: u8) -> 
 // The body at `index` is read on at the cursor: the innermost after a byte of it, or the next one where a call begins.
 pub fn set_body(cells: &mut [u8; 8], places: &mut [u8; 8], index: u8, cursor: Cursor)
     requires { ⌜ index < 8 ⌝ }
-    ensures { λ _. ⌜ (now (cells .exit) ≡ set (now (cells .entry)) index (cursor .cell)) × (now (places .exit) ≡ set (now (places .entry)) index (cursor .place)) ⌝ }
+    ensures { λ _. ⌜ (now (cells .exit) ≡ set (now (cells .entry)) index (cursor .cell))
+        × (now (places .exit) ≡ set (now (places .entry)) index (cursor .place)) ⌝ }
 {
     cells[index as usize] = cursor.cell;
     places[index as usize] = cursor.place;

@@ -57,7 +57,8 @@ fn graphic(set: Set, byte: u8) -> Reacted
 
 // A control drops the single shift.
 pub(crate) fn read_from(element: Element, sets: Sets, byte: u8) -> Reacted
-    ensures { λ r. ⌜ ((w : Waiting) (f st : List ℕ) → reactionOf sets r f st ≡ readFrom element (classOf byte) (codingOf sets w f) st byte) ⌝ }
+    ensures { λ r. ⌜ ((w : Waiting) (f st : List ℕ)
+        → reactionOf sets r f st ≡ readFrom element (classOf byte) (codingOf sets w f) st byte) ⌝ }
 {
     match class_of(byte) {
         Class::Below(k) => control(k, byte),

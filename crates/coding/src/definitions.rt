@@ -29,7 +29,9 @@ ghost use Rattle.coding.specs.View.{codingOf, reactionOf, AsLent};
 // Frees the old body of the name.
 fn open_body(firsts: &mut [u8; 96], store: &mut [u8], name: u8) -> Reacted
     requires { ⌜ (Sized (now store)) × (IsName name) ⌝ }
-    ensures reaction { λ r. ⌜ ((s : Sets) → reactionOf s r (now (firsts .exit)) (now (store .exit)) ≡ openBody name (codingOf s Waiting.Name (now (firsts .entry))) (now (store .entry))) ⌝ }
+    ensures reaction { λ r. ⌜ ((s : Sets)
+        → reactionOf s r (now (firsts .exit)) (now (store .exit))
+        ≡ openBody name (codingOf s Waiting.Name (now (firsts .entry))) (now (store .entry))) ⌝ }
     ensures kept { λ r. ⌜ (AsLent r (now (firsts .entry)) (now (firsts .exit))) × (AsLent r (now (store .entry)) (now (store .exit))) ⌝ }
 {
     match free_body(store, first_of(firsts, name)) {
@@ -43,7 +45,9 @@ fn open_body(firsts: &mut [u8; 96], store: &mut [u8], name: u8) -> Reacted
 
 pub(crate) fn take_name(firsts: &mut [u8; 96], store: &mut [u8], byte: u8) -> Reacted
     requires { ⌜ (Sized (now store)) × (byte ≤ 127) ⌝ }
-    ensures reaction { λ r. ⌜ ((s : Sets) → reactionOf s r (now (firsts .exit)) (now (store .exit)) ≡ reactTo Waiting.Name (classOf byte) (codingOf s Waiting.Name (now (firsts .entry))) (now (store .entry)) byte) ⌝ }
+    ensures reaction { λ r. ⌜ ((s : Sets)
+        → reactionOf s r (now (firsts .exit)) (now (store .exit))
+        ≡ reactTo Waiting.Name (classOf byte) (codingOf s Waiting.Name (now (firsts .entry))) (now (store .entry)) byte) ⌝ }
     ensures kept { λ r. ⌜ (AsLent r (now (firsts .entry)) (now (firsts .exit))) × (AsLent r (now (store .entry)) (now (store .exit))) ⌝ }
 {
     if byte < 32 {
@@ -54,7 +58,8 @@ pub(crate) fn take_name(firsts: &mut [u8; 96], store: &mut [u8], byte: u8) -> Re
 
 // The definition goes on after what was stored.
 fn keep_body(answer: StoreAnswer) -> Reacted
-    ensures reaction { λ r. ⌜ ((s : Sets) (w : Waiting) (f g st : List ℕ) → reactionOf s r f st ≡ keep Waiting.Body (storingOf answer f st) (codingOf s w g)) ⌝ }
+    ensures reaction { λ r. ⌜ ((s : Sets) (w : Waiting) (f g st : List ℕ)
+        → reactionOf s r f st ≡ keep Waiting.Body (storingOf answer f st) (codingOf s w g)) ⌝ }
     ensures kept { λ r. ⌜ ((lent left : List ℕ) → KeptIfRefused answer lent left → AsLent r lent left) ⌝ }
 {
     match answer {
@@ -65,7 +70,8 @@ fn keep_body(answer: StoreAnswer) -> Reacted
 
 // An ESC was read after what was stored.
 fn keep_escape(answer: StoreAnswer) -> Reacted
-    ensures reaction { λ r. ⌜ ((s : Sets) (w : Waiting) (f g st : List ℕ) → reactionOf s r f st ≡ keep Waiting.BodyEscape (storingOf answer f st) (codingOf s w g)) ⌝ }
+    ensures reaction { λ r. ⌜ ((s : Sets) (w : Waiting) (f g st : List ℕ)
+        → reactionOf s r f st ≡ keep Waiting.BodyEscape (storingOf answer f st) (codingOf s w g)) ⌝ }
     ensures kept { λ r. ⌜ ((lent left : List ℕ) → KeptIfRefused answer lent left → AsLent r lent left) ⌝ }
 {
     match answer {
@@ -81,7 +87,10 @@ pub(crate) fn in_body(
     byte: u8,
 ) -> Reacted
     requires { ⌜ (Sized (now store)) × (IsName (definition .name)) ⌝ }
-    ensures reaction { λ r. ⌜ ((s : Sets) → reactionOf s r (now (firsts .exit)) (now (store .exit)) ≡ inBody (eqb byte esc) definition (codingOf s (Waiting.Body definition) (now (firsts .entry))) (now (store .entry)) byte) ⌝ }
+    ensures reaction { λ r. ⌜ ((s : Sets)
+        → reactionOf s r (now (firsts .exit)) (now (store .exit))
+        ≡ inBody (eqb byte esc) definition (codingOf s (Waiting.Body definition) (now (firsts .entry)))
+        (now (store .entry)) byte) ⌝ }
     ensures kept { λ r. ⌜ (AsLent r (now (firsts .entry)) (now (firsts .exit))) × (AsLent r (now (store .entry)) (now (store .exit))) ⌝ }
 {
     if byte == ESC {
@@ -98,7 +107,10 @@ pub(crate) fn in_body_escape(
     byte: u8,
 ) -> Reacted
     requires { ⌜ (Sized (now store)) × (IsName (definition .name)) ⌝ }
-    ensures reaction { λ r. ⌜ ((s : Sets) → reactionOf s r (now (firsts .exit)) (now (store .exit)) ≡ inBodyEscape (innerOf byte) definition (codingOf s (Waiting.BodyEscape definition) (now (firsts .entry))) (now (store .entry)) byte) ⌝ }
+    ensures reaction { λ r. ⌜ ((s : Sets)
+        → reactionOf s r (now (firsts .exit)) (now (store .exit))
+        ≡ inBodyEscape (innerOf byte) definition (codingOf s (Waiting.BodyEscape definition) (now (firsts .entry)))
+        (now (store .entry)) byte) ⌝ }
     ensures kept { λ r. ⌜ (AsLent r (now (firsts .entry)) (now (firsts .exit))) × (AsLent r (now (store .entry)) (now (store .exit))) ⌝ }
 {
     match inner_of(byte) {

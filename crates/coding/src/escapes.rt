@@ -39,7 +39,8 @@ fn escape(last: Final) -> Reacted
 }
 
 fn designation(designated: Designated, element: Element) -> Reacted
-    ensures { λ r. ⌜ ((s : Sets) (f st : List ℕ) → reactionOf s r f st ≡ designation designated element (codingOf s Waiting.Nothing f) st) ⌝ }
+    ensures { λ r. ⌜ ((s : Sets) (f st : List ℕ)
+        → reactionOf s r f st ≡ designation designated element (codingOf s Waiting.Nothing f) st) ⌝ }
 {
     match designated {
         Designated::Unassigned => wait_for(Waiting::Nothing),
@@ -49,7 +50,8 @@ fn designation(designated: Designated, element: Element) -> Reacted
 
 // The byte after ESC.
 pub(crate) fn in_escape(byte: u8) -> Reacted
-    ensures { λ r. ⌜ ((s : Sets) (f st : List ℕ) → reactionOf s r f st ≡ reactTo Waiting.Escape (classOf byte) (codingOf s Waiting.Escape f) st byte) ⌝ }
+    ensures { λ r. ⌜ ((s : Sets) (f st : List ℕ)
+        → reactionOf s r f st ≡ reactTo Waiting.Escape (classOf byte) (codingOf s Waiting.Escape f) st byte) ⌝ }
 {
     match class_of(byte) {
         Class::Below(k) => control(k, byte),
@@ -59,7 +61,9 @@ pub(crate) fn in_escape(byte: u8) -> Reacted
 }
 
 pub(crate) fn in_designation(element: Element, byte: u8) -> Reacted
-    ensures { λ r. ⌜ ((s : Sets) (f st : List ℕ) → reactionOf s r f st ≡ reactTo (Waiting.Designator element) (classOf byte) (codingOf s (Waiting.Designator element) f) st byte) ⌝ }
+    ensures { λ r. ⌜ ((s : Sets) (f st : List ℕ)
+        → reactionOf s r f st
+        ≡ reactTo (Waiting.Designator element) (classOf byte) (codingOf s (Waiting.Designator element) f) st byte) ⌝ }
 {
     match class_of(byte) {
         Class::Below(k) => control(k, byte),
@@ -70,7 +74,8 @@ pub(crate) fn in_designation(element: Element, byte: u8) -> Reacted
 
 // A longer sequence has no meaning; its end is looked for.
 pub(crate) fn in_longer(byte: u8) -> Reacted
-    ensures { λ r. ⌜ ((s : Sets) (f st : List ℕ) → reactionOf s r f st ≡ reactTo Waiting.Longer (classOf byte) (codingOf s Waiting.Longer f) st byte) ⌝ }
+    ensures { λ r. ⌜ ((s : Sets) (f st : List ℕ)
+        → reactionOf s r f st ≡ reactTo Waiting.Longer (classOf byte) (codingOf s Waiting.Longer f) st byte) ⌝ }
 {
     match class_of(byte) {
         Class::Below(k) => control(k, byte),

@@ -45,7 +45,8 @@ pub fn react(
     byte: u8,
 ) -> Reacted
     requires { ⌜ (Sized (now store)) × (waitingFits waiting ≡ true) ⌝ }
-    ensures reaction { λ r. ⌜ reactionOf sets r (now (firsts .exit)) (now (store .exit)) ≡ react (codingOf sets waiting (now (firsts .entry))) (now (store .entry)) byte ⌝ }
+    ensures reaction { λ r. ⌜ reactionOf sets r (now (firsts .exit)) (now (store .exit))
+        ≡ react (codingOf sets waiting (now (firsts .entry))) (now (store .entry)) byte ⌝ }
     ensures kept { λ r. ⌜ (AsLent r (now (firsts .entry)) (now (firsts .exit))) × (AsLent r (now (store .entry)) (now (store .exit))) ⌝ }
 {
     if 127 < byte {

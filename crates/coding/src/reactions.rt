@@ -77,7 +77,8 @@ pub(crate) fn call(name: u8) -> Reacted
 }
 
 pub(crate) fn use_element(element: Element) -> Reacted
-    ensures { λ r. ⌜ ((s : Sets) (f st : List ℕ) → reactionOf s r f st ≡ React (codingOf (inUse element s) Waiting.Nothing f) st Action.Idle) ⌝ }
+    ensures { λ r. ⌜ ((s : Sets) (f st : List ℕ)
+        → reactionOf s r f st ≡ React (codingOf (inUse element s) Waiting.Nothing f) st Action.Idle) ⌝ }
 {
     Reacted {
         effect: Effect::Uses(element),
@@ -86,7 +87,8 @@ pub(crate) fn use_element(element: Element) -> Reacted
 }
 
 pub(crate) fn designate_set(element: Element, set: Set) -> Reacted
-    ensures { λ r. ⌜ ((s : Sets) (f st : List ℕ) → reactionOf s r f st ≡ React (codingOf (designate element set s) Waiting.Nothing f) st Action.Idle) ⌝ }
+    ensures { λ r. ⌜ ((s : Sets) (f st : List ℕ)
+        → reactionOf s r f st ≡ React (codingOf (designate element set s) Waiting.Nothing f) st Action.Idle) ⌝ }
 {
     Reacted {
         effect: Effect::Designates(element, set),

@@ -124,8 +124,12 @@ pub(crate) fn open_next(
     out: &mut [u8],
     at: usize,
 ) -> Opened
-    requires { ⌜ (row ≡ rowOf (command .opcode)) × (isForeground (roleOf (row .pattern) (command .due)) ≡ false) × (at + roomForStep ≤ length (now out)) × (next ≡ rowOf byte) ⌝ }
-    ensures { λ r. ⌜ ((l : Look) (o : Operand) (m : List ℕ) → Inks ink pel l → o .count ≡ 0 → standing (penAt (r .point) noOperand) (r .command) l m (r .at) (now (out .exit)) ≡ carryOut (act (asked byte)) (drawingOf (penAt p o) command l m) at (now (out .entry))) × (r .row ≡ rowOf (r .command .opcode)) × (r .at ≤ at + 80) ⌝ }
+    requires { ⌜ (row ≡ rowOf (command .opcode)) × (isForeground (roleOf (row .pattern) (command .due)) ≡ false)
+        × (at + roomForStep ≤ length (now out)) × (next ≡ rowOf byte) ⌝ }
+    ensures { λ r. ⌜ ((l : Look) (o : Operand) (m : List ℕ) → Inks ink pel l → o .count ≡ 0
+        → standing (penAt (r .point) noOperand) (r .command) l m (r .at) (now (out .exit))
+        ≡ carryOut (act (asked byte)) (drawingOf (penAt p o) command l m) at (now (out .entry)))
+        × (r .row ≡ rowOf (r .command .opcode)) × (r .at ≤ at + 80) ⌝ }
 {
     let role = role_due(row, command);
     let done = finish(role, row, p, command, ink, pel, out, at);

@@ -120,8 +120,11 @@ pub fn run_commands(
     out: &mut [u8],
     at: usize,
 ) -> Ran
-    requires { ⌜ (pen .operand .count ≡ 0) × (domainFits (look .domain) ≡ true) × (commandFits command ≡ true) × (from ≤ to) × (to ≤ length (now bytes)) × (at ≤ length (now out)) ⌝ }
-    ensures ran { λ r. ⌜ ((m : List ℕ) → Run Set.Pdi (now (bytes .entry)) from (standing pen command look m at (now (out .entry))) (r .count) (standing (r .pen) (r .command) look m (r .at) (now (out .exit)))) ⌝ }
+    requires { ⌜ (pen .operand .count ≡ 0) × (domainFits (look .domain) ≡ true) × (commandFits command ≡ true) × (from ≤ to)
+        × (to ≤ length (now bytes)) × (at ≤ length (now out)) ⌝ }
+    ensures ran { λ r. ⌜ ((m : List ℕ)
+        → Run Set.Pdi (now (bytes .entry)) from (standing pen command look m at (now (out .entry))) (r .count)
+        (standing (r .pen) (r .command) look m (r .at) (now (out .exit)))) ⌝ }
     ensures most { λ r. ⌜ from + r .count ≤ to ⌝ }
 {
     let ink = head_of(look, 0, 0, 0, 0);

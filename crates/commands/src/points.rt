@@ -22,7 +22,9 @@ pub(crate) fn point_due(
     to: usize,
 ) -> Whole
     requires { ⌜ (n ≤ 8) × (place ≤ to) × (to ≤ length (now bytes)) ⌝ }
-    ensures { λ r. ⌜ ((v : Point) → r ≡ Whole.Whole v → (isPoint role vertices ≡ true) × (place + n ≤ to) × (wholeOf three (take n (drop place (now (bytes .entry)))) ≡ Whole.Whole v)) ⌝ }
+    ensures { λ r. ⌜ ((v : Point) → r ≡ Whole.Whole v
+        → (isPoint role vertices ≡ true) × (place + n ≤ to)
+        × (wholeOf three (take n (drop place (now (bytes .entry)))) ≡ Whole.Whole v)) ⌝ }
 {
     if to - place < n {
         return Whole::Cut;

@@ -91,7 +91,8 @@ pub(crate) fn put_figure(
     at: usize,
 )
     requires { ⌜ at + 40 ≤ length (now out) ⌝ }
-    ensures { λ _. ⌜ ((l : Look) → Inks ink pel l → now (out .exit) ≡ overwrite at (bytesOf (figure l kind flags p0 p1 p2)) (now (out .entry))) ⌝ }
+    ensures { λ _. ⌜ ((l : Look) → Inks ink pel l
+        → now (out .exit) ≡ overwrite at (bytesOf (figure l kind flags p0 p1 p2)) (now (out .entry))) ⌝ }
 {
     let head = with_kind(ink, kind, flags);
     put_words(out, at, head, p0, p1, p2, pel);
@@ -110,7 +111,8 @@ fn stroke(
     at: usize,
 ) -> Traced
     requires { ⌜ at + 40 ≤ length (now out) ⌝ }
-    ensures { λ r. ⌜ TracesBy (drawFigure (row .kind) (row .filled) wrapped q) ink pel p command at (now (out .entry)) r (now (out .exit)) × Near command at r ⌝ }
+    ensures { λ r. ⌜ TracesBy (drawFigure (row .kind) (row .filled) wrapped q) ink pel p command at (now (out .entry)) r
+        (now (out .exit)) × Near command at r ⌝ }
 {
     let kind = row.kind;
     let flags = flags(row.filled, wrapped, false);
@@ -178,7 +180,11 @@ pub(crate) fn put_arc(
     at: usize,
 )
     requires { ⌜ at + 40 ≤ length (now out) ⌝ }
-    ensures { λ _. ⌜ ((l : Look) → Inks ink pel l → now (out .exit) ≡ overwrite at (bytesOf (figure l 3 (flags filled (command .wrapped || wrapped) false) (command .start) (command .middle) q)) (now (out .entry))) ⌝ }
+    ensures { λ _. ⌜ ((l : Look) → Inks ink pel l
+        → now (out .exit)
+        ≡ overwrite at
+        (bytesOf (figure l 3 (flags filled (command .wrapped || wrapped) false) (command .start) (command .middle) q))
+        (now (out .entry))) ⌝ }
 {
     let flags = flags(filled, either(command.wrapped, wrapped), false);
     let start = command.start;
@@ -197,7 +203,8 @@ fn arc_end(
     at: usize,
 ) -> Traced
     requires { ⌜ at + 40 ≤ length (now out) ⌝ }
-    ensures { λ r. ⌜ ((p : Point) → TracesBy (arcTo filled wrapped q) ink pel p command at (now (out .entry)) r (now (out .exit))) × Near command at r ⌝ }
+    ensures { λ r. ⌜ ((p : Point) → TracesBy (arcTo filled wrapped q) ink pel p command at (now (out .entry)) r (now (out .exit)))
+        × Near command at r ⌝ }
 {
     put_arc(filled, wrapped, q, command, ink, pel, out, at);
     Traced {
@@ -219,7 +226,8 @@ fn edge(
     at: usize,
 ) -> Traced
     requires { ⌜ (command .vertices < mostVertices) × (at + 40 ≤ length (now out)) ⌝ }
-    ensures { λ r. ⌜ ((v : Point) → q ≡ displaced p v → wrapped ≡ displacedOut p v → TracesBy (edgeBy filled v) ink pel p command at (now (out .entry)) r (now (out .exit))) × Near command at r ⌝ }
+    ensures { λ r. ⌜ ((v : Point) → q ≡ displaced p v → wrapped ≡ displacedOut p v
+        → TracesBy (edgeBy filled v) ink pel p command at (now (out .entry)) r (now (out .exit))) × Near command at r ⌝ }
 {
     let flags = flags(filled, wrapped, false);
     put_figure(ink, 5, flags, p, q, ORIGIN, pel, out, at);
@@ -245,7 +253,9 @@ pub(crate) fn trace(
     at: usize,
 ) -> Traced
     requires { ⌜ (isPoint role (command .vertices) ≡ true) × (at + 40 ≤ length (now out)) ⌝ }
-    ensures { λ r. ⌜ ((bs : List ℕ) (l : Look) (o : Operand) (m : List ℕ) → Inks ink pel l → v ≡ point (l .domain .three) bs → standing (penAt (r .point) o) (r .command) l m (r .at) (now (out .exit)) ≡ carryOut (apply role row bs) (drawingOf (penAt p o) command l m) at (now (out .entry))) × Near command at r ⌝ }
+    ensures { λ r. ⌜ ((bs : List ℕ) (l : Look) (o : Operand) (m : List ℕ) → Inks ink pel l → v ≡ point (l .domain .three) bs
+        → standing (penAt (r .point) o) (r .command) l m (r .at) (now (out .exit))
+        ≡ carryOut (apply role row bs) (drawingOf (penAt p o) command l m) at (now (out .entry))) × Near command at r ⌝ }
 {
     let t = target(role, p, v);
     let q = t.point;

@@ -145,7 +145,8 @@ fn pairs(b0: u8, b1: u8, b2: u8, b3: u8) -> u8
 }
 
 pub fn hue_of(o: Operand) -> Hue
-    ensures { λ r. ⌜ (r .green ≡ fromTop 8 (bitsOf greenBits (begun o))) × (r .red ≡ fromTop 8 (bitsOf redBits (begun o))) × (r .blue ≡ fromTop 8 (bitsOf blueBits (begun o))) ⌝ }
+    ensures { λ r. ⌜ (r .green ≡ fromTop 8 (bitsOf greenBits (begun o))) × (r .red ≡ fromTop 8 (bitsOf redBits (begun o)))
+        × (r .blue ≡ fromTop 8 (bitsOf blueBits (begun o))) ⌝ }
 {
     let b0 = byte_of(o, 0);
     let b1 = byte_of(o, 1);

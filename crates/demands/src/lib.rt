@@ -113,7 +113,8 @@ pub fn feed_cuts(
 // An end after the calls, into the rest of the output.
 fn end_more(before: Fed, store: &[u8], out: &mut [u8]) -> Fed
     requires { ⌜ before .written ≤ length (now out) ⌝ }
-    ensures { λ r. ⌜ handedOf r (now (store .entry)) (now (out .exit)) ≡ endMore (handedOf before (now (store .entry)) (now (out .entry))) ⌝ }
+    ensures { λ r. ⌜ handedOf r (now (store .entry)) (now (out .exit))
+        ≡ endMore (handedOf before (now (store .entry)) (now (out .entry))) ⌝ }
 {
     let written = before.written;
     let ended = end(before.session, store, &mut out[written..]);
@@ -130,7 +131,8 @@ fn end_more(before: Fed, store: &[u8], out: &mut [u8]) -> Fed
 // An end where the calls read all they were lent; else what they came to.
 fn end_done(before: Fed, store: &[u8], out: &mut [u8]) -> Fed
     requires { ⌜ before .written ≤ length (now out) ⌝ }
-    ensures { λ r. ⌜ handedOf r (now (store .entry)) (now (out .exit)) ≡ endDone (handedOf before (now (store .entry)) (now (out .entry))) ⌝ }
+    ensures { λ r. ⌜ handedOf r (now (store .entry)) (now (out .exit))
+        ≡ endDone (handedOf before (now (store .entry)) (now (out .entry))) ⌝ }
 {
     let answer = before.answer;
     match answer {

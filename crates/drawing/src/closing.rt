@@ -33,7 +33,8 @@ fn complete(
     at: usize,
 ) -> Drawn
     requires { ⌜ (pen .operand .count ≤ 8) × (look .colour .foreground ≤ 15) × (at + 40 ≤ length (now out)) ⌝ }
-    ensures { λ r. ⌜ carriedOf r (now (map .exit)) (now (out .exit)) ≡ carryOut (complete row) (drawingOf pen command look (now (map .entry))) at (now (out .entry)) ⌝ }
+    ensures { λ r. ⌜ carriedOf r (now (map .exit)) (now (out .exit))
+        ≡ carryOut (complete row) (drawingOf pen command look (now (map .entry))) at (now (out .entry)) ⌝ }
 {
     if pen.operand.count == 0 {
         return no_record(pen, command, look, at);
@@ -103,8 +104,10 @@ pub(crate) fn close(
     out: &mut [u8],
     at: usize,
 ) -> Drawn
-    requires { ⌜ (row ≡ rowOf (command .opcode)) × (pen .operand .count ≤ 8) × (look .colour .foreground ≤ 15) × (at + 80 ≤ length (now out)) ⌝ }
-    ensures { λ r. ⌜ carriedOf r (now (map .exit)) (now (out .exit)) ≡ carryOut close (drawingOf pen command look (now (map .entry))) at (now (out .entry)) ⌝ }
+    requires { ⌜ (row ≡ rowOf (command .opcode)) × (pen .operand .count ≤ 8) × (look .colour .foreground ≤ 15)
+        × (at + 80 ≤ length (now out)) ⌝ }
+    ensures { λ r. ⌜ carriedOf r (now (map .exit)) (now (out .exit))
+        ≡ carryOut close (drawingOf pen command look (now (map .entry))) at (now (out .entry)) ⌝ }
 {
     let done = complete(row, pen, command, look, map, out, at);
     if done.refused {

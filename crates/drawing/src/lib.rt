@@ -55,8 +55,11 @@ fn close_and_mark(
     out: &mut [u8],
     at: usize,
 ) -> Drawn
-    requires { ⌜ (row ≡ rowOf (command .opcode)) × (pen .operand .count ≤ 8) × (look .colour .foreground ≤ 15) × (at + roomForStep ≤ length (now out)) ⌝ }
-    ensures { λ r. ⌜ carriedOf r (now (map .exit)) (now (out .exit)) ≡ carryOut (λ d. andThen (close d) (λ e. Draw e (mark (e .look) kind repertoire code (e .pen .point) ∷ []))) (drawingOf pen command look (now (map .entry))) at (now (out .entry)) ⌝ }
+    requires { ⌜ (row ≡ rowOf (command .opcode)) × (pen .operand .count ≤ 8) × (look .colour .foreground ≤ 15)
+        × (at + roomForStep ≤ length (now out)) ⌝ }
+    ensures { λ r. ⌜ carriedOf r (now (map .exit)) (now (out .exit))
+        ≡ carryOut (λ d. andThen (close d) (λ e. Draw e (mark (e .look) kind repertoire code (e .pen .point) ∷ [])))
+        (drawingOf pen command look (now (map .entry))) at (now (out .entry)) ⌝ }
 {
     let done = close(row, pen, command, look, map, out, at);
     if done.refused {
@@ -77,8 +80,11 @@ fn close_and_open(
     out: &mut [u8],
     at: usize,
 ) -> Drawn
-    requires { ⌜ (row ≡ rowOf (command .opcode)) × (pen .operand .count ≤ 8) × (look .colour .foreground ≤ 15) × (at + roomForStep ≤ length (now out)) ⌝ }
-    ensures { λ r. ⌜ carriedOf r (now (map .exit)) (now (out .exit)) ≡ carryOut (λ d. andThen (close d) (openCommand opcode)) (drawingOf pen command look (now (map .entry))) at (now (out .entry)) ⌝ }
+    requires { ⌜ (row ≡ rowOf (command .opcode)) × (pen .operand .count ≤ 8) × (look .colour .foreground ≤ 15)
+        × (at + roomForStep ≤ length (now out)) ⌝ }
+    ensures { λ r. ⌜ carriedOf r (now (map .exit)) (now (out .exit))
+        ≡ carryOut (λ d. andThen (close d) (openCommand opcode)) (drawingOf pen command look (now (map .entry))) at
+        (now (out .entry)) ⌝ }
 {
     let done = close(row, pen, command, look, map, out, at);
     if done.refused {
@@ -98,7 +104,8 @@ pub fn act(
     at: usize,
 ) -> Drawn
     requires { ⌜ (drawingFits (drawingOf pen command look (now map)) ≡ true) × (at + roomForStep ≤ length (now out)) ⌝ }
-    ensures { λ r. ⌜ carriedOf r (now (map .exit)) (now (out .exit)) ≡ carryOut (act action) (drawingOf pen command look (now (map .entry))) at (now (out .entry)) ⌝ }
+    ensures { λ r. ⌜ carriedOf r (now (map .exit)) (now (out .exit))
+        ≡ carryOut (act action) (drawingOf pen command look (now (map .entry))) at (now (out .entry)) ⌝ }
 {
     match action {
         Action::Idle => no_record(pen, command, look, at),

@@ -76,7 +76,8 @@ pub(crate) fn apply_begun(
     at: usize,
 ) -> Drawn
     requires { ⌜ (pen .operand .count ≤ 8) × (look .colour .foreground ≤ 15) × (at + 40 ≤ length (now out)) ⌝ }
-    ensures { λ r. ⌜ carriedOf r (now (map .exit)) (now (out .exit)) ≡ carryOut (applyBegun row) (drawingOf pen command look (now (map .entry))) at (now (out .entry)) ⌝ }
+    ensures { λ r. ⌜ carriedOf r (now (map .exit)) (now (out .exit))
+        ≡ carryOut (applyBegun row) (drawingOf pen command look (now (map .entry))) at (now (out .entry)) ⌝ }
 {
     let role = role_due(row, command);
     let done = apply(role, row, pen, command, look, map, out, at);
@@ -89,7 +90,12 @@ pub(crate) fn apply_begun(
 // One byte more of the operand that is begun.
 fn join_byte(pen: Pen, byte: u8) -> Pen
     requires { ⌜ pen .operand .count < 8 ⌝ }
-    ensures { λ r. ⌜ r ≡ record { point = pen .point; operand = record { bytes = set (pen .operand .bytes) (pen .operand .count) byte; count = suc (pen .operand .count) } } ⌝ }
+    ensures { λ r. ⌜ r
+        ≡ record {
+          point = pen .point;
+          operand = record
+              { bytes = set (pen .operand .bytes) (pen .operand .count) byte; count = suc (pen .operand .count) };
+        } ⌝ }
 {
     let point = pen.point;
     let mut bytes = pen.operand.bytes;
@@ -114,7 +120,8 @@ pub(crate) fn data_byte(
     at: usize,
 ) -> Drawn
     requires { ⌜ (pen .operand .count < 8) × (look .colour .foreground ≤ 15) × (at + 40 ≤ length (now out)) ⌝ }
-    ensures { λ r. ⌜ carriedOf r (now (map .exit)) (now (out .exit)) ≡ carryOut (dataByte row byte) (drawingOf pen command look (now (map .entry))) at (now (out .entry)) ⌝ }
+    ensures { λ r. ⌜ carriedOf r (now (map .exit)) (now (out .exit))
+        ≡ carryOut (dataByte row byte) (drawingOf pen command look (now (map .entry))) at (now (out .entry)) ⌝ }
 {
     let role = role_due(row, command);
     let bytes_due = length_of(role, look.domain);

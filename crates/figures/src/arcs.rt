@@ -67,7 +67,8 @@ pub(crate) fn arc_by(
     at: usize,
 ) -> Drawn
     requires { ⌜ at + 40 ≤ length (now out) ⌝ }
-    ensures { λ r. ⌜ DrawsBy (arcTo filled (displacedOut (pen .point) v) (displaced (pen .point) v)) pen command look at (now (out .entry)) r (now (out .exit)) ⌝ }
+    ensures { λ r. ⌜ DrawsBy (arcTo filled (displacedOut (pen .point) v) (displaced (pen .point) v)) pen command look at
+        (now (out .entry)) r (now (out .exit)) ⌝ }
 {
     let p = pen.point;
     let sum = displace(p, v);

@@ -22,7 +22,8 @@ ghost use Rattle.rules.specs.Drawing.{Draw, withColour, withForeground, withBac
 ghost use Rattle.figures.specs.Carried.{carryOut, drawingOf, carriedOf, ChangesBy};
 
 pub(crate) fn set_foreground(pen: Pen, command: Command, look: Look, at: usize) -> Drawn
-    ensures { λ r. ⌜ ChangesBy (λ d. Draw (withColour (withForeground (address (begun (pen .operand))) (d .look .colour)) d) []) pen command look at r ⌝ }
+    ensures { λ r. ⌜ ChangesBy (λ d. Draw (withColour (withForeground (address (begun (pen .operand))) (d .look .colour)) d) []) pen
+        command look at r ⌝ }
 {
     let operand = pen.operand;
     let old = look.colour;
@@ -40,7 +41,8 @@ pub(crate) fn set_foreground(pen: Pen, command: Command, look: Look, at: usize) 
 }
 
 pub(crate) fn set_background(pen: Pen, command: Command, look: Look, at: usize) -> Drawn
-    ensures { λ r. ⌜ ChangesBy (λ d. Draw (withColour (withBackground (address (begun (pen .operand))) (d .look .colour)) d) []) pen command look at r ⌝ }
+    ensures { λ r. ⌜ ChangesBy (λ d. Draw (withColour (withBackground (address (begun (pen .operand))) (d .look .colour)) d) []) pen
+        command look at r ⌝ }
 {
     let operand = pen.operand;
     let old = look.colour;
@@ -91,7 +93,9 @@ fn shade_map(
     at: usize,
 ) -> Drawn
     requires { ⌜ (look .colour .foreground ≤ 15) × (at + 40 ≤ length (now out)) ⌝ }
-    ensures { λ r. ⌜ carriedOf r (now (map .exit)) (now (out .exit)) ≡ carryOut (shadeMap (hue .green) (hue .red) (hue .blue)) (drawingOf pen command look (now (map .entry))) at (now (out .entry)) ⌝ }
+    ensures { λ r. ⌜ carriedOf r (now (map .exit)) (now (out .exit))
+        ≡ carryOut (shadeMap (hue .green) (hue .red) (hue .blue)) (drawingOf pen command look (now (map .entry))) at
+        (now (out .entry)) ⌝ }
 {
     let colour = look.colour;
     put_hue(map, colour.foreground, hue);
@@ -119,7 +123,9 @@ fn shade_to(
     at: usize,
 ) -> Drawn
     requires { ⌜ (look .colour .foreground ≤ 15) × (at + 40 ≤ length (now out)) ⌝ }
-    ensures { λ r. ⌜ carriedOf r (now (map .exit)) (now (out .exit)) ≡ carryOut (shadeTo mode (hue .green) (hue .red) (hue .blue)) (drawingOf pen command look (now (map .entry))) at (now (out .entry)) ⌝ }
+    ensures { λ r. ⌜ carriedOf r (now (map .exit)) (now (out .exit))
+        ≡ carryOut (shadeTo mode (hue .green) (hue .red) (hue .blue)) (drawingOf pen command look (now (map .entry))) at
+        (now (out .entry)) ⌝ }
 {
     match mode {
         Mode::Direct => shade_colour(hue, pen, command, look, at),
@@ -137,7 +143,11 @@ pub(crate) fn set_shade(
     at: usize,
 ) -> Drawn
     requires { ⌜ (look .colour .foreground ≤ 15) × (at + 40 ≤ length (now out)) ⌝ }
-    ensures { λ r. ⌜ carriedOf r (now (map .exit)) (now (out .exit)) ≡ carryOut (shadeTo (look .colour .mode) (fromTop 8 (bitsOf greenBits (begun (pen .operand)))) (fromTop 8 (bitsOf redBits (begun (pen .operand)))) (fromTop 8 (bitsOf blueBits (begun (pen .operand))))) (drawingOf pen command look (now (map .entry))) at (now (out .entry)) ⌝ }
+    ensures { λ r. ⌜ carriedOf r (now (map .exit)) (now (out .exit))
+        ≡ carryOut
+        (shadeTo (look .colour .mode) (fromTop 8 (bitsOf greenBits (begun (pen .operand))))
+        (fromTop 8 (bitsOf redBits (begun (pen .operand)))) (fromTop 8 (bitsOf blueBits (begun (pen .operand)))))
+        (drawingOf pen command look (now (map .entry))) at (now (out .entry)) ⌝ }
 {
     let operand = pen.operand;
     let hue = hue_of(operand);

@@ -14,7 +14,8 @@ ghost use Rattle.rules.specs.Drawing.{Draw, withDomain, withPel, domainOf};
 ghost use Rattle.figures.specs.Carried.{ChangesBy};
 
 pub(crate) fn set_lengths(pen: Pen, command: Command, look: Look, at: usize) -> Drawn
-    ensures { λ r. ⌜ ChangesBy (λ d. Draw (withDomain (domainOf (getD (begun (pen .operand)) 0 0) (d .look .domain .pel)) d) []) pen command look at r ⌝ }
+    ensures { λ r. ⌜ ChangesBy (λ d. Draw (withDomain (domainOf (getD (begun (pen .operand)) 0 0) (d .look .domain .pel)) d) []) pen
+        command look at r ⌝ }
 {
     let operand = pen.operand;
     let old = look.domain;

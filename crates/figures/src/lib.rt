@@ -53,7 +53,9 @@ pub fn apply(
     at: usize,
 ) -> Drawn
     requires { ⌜ (pen .operand .count ≤ 8) × (look .colour .foreground ≤ 15) × (at + 40 ≤ length (now out)) ⌝ }
-    ensures { λ r. ⌜ carriedOf r (now (map .exit)) (now (out .exit)) ≡ carryOut (apply role row (begun (pen .operand))) (drawingOf pen command look (now (map .entry))) at (now (out .entry)) ⌝ }
+    ensures { λ r. ⌜ carriedOf r (now (map .exit)) (now (out .exit))
+        ≡ carryOut (apply role row (begun (pen .operand))) (drawingOf pen command look (now (map .entry))) at
+        (now (out .entry)) ⌝ }
 {
     let operand = pen.operand;
     let domain = look.domain;

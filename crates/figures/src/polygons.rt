@@ -19,7 +19,9 @@ ghost use Rattle.rules.specs.Drawing.{Draw, withPoint, withCommand, withStart, 
 ghost use Rattle.figures.specs.Carried.{DrawsBy, ChangesBy};
 
 pub(crate) fn start_at(p: Point, pen: Pen, command: Command, look: Look, at: usize) -> Drawn
-    ensures { λ r. ⌜ ChangesBy (λ d. Draw (withPoint p (withCommand (withStart p (d .command .middle) (d .command .wrapped) (d .command)) d)) []) pen command look at r ⌝ }
+    ensures { λ r. ⌜ ChangesBy
+        (λ d. Draw (withPoint p (withCommand (withStart p (d .command .middle) (d .command .wrapped) (d .command)) d)) [])
+        pen command look at r ⌝ }
 {
     let mut begun = command;
     begun.start = p;

@@ -62,7 +62,8 @@ pub fn finish(
     firsts: [u8; 96],
     map: [u8; 48],
 ) -> Fed
-    ensures { λ r. ⌜ r ≡ fedOf answer progress (sessionAfter answer budget progress cells places firsts (drawingOf pen command look map)) ⌝ }
+    ensures { λ r. ⌜ r
+        ≡ fedOf answer progress (sessionAfter answer budget progress cells places firsts (drawingOf pen command look map)) ⌝ }
 {
     let sets = progress.sets;
     let waiting = progress.waiting;

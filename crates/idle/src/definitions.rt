@@ -35,7 +35,8 @@ fn none_read(waiting: Waiting) -> Defined
 // Whether the next two bytes are ESC and the given one.
 fn escape_then(bytes: &[u8], from: usize, to: usize, last: u8) -> bool
     requires { ⌜ (from ≤ to) × (to ≤ length (now bytes)) ⌝ }
-    ensures { λ r. ⌜ (r ≡ true → (from + 2 ≤ to) × (getD (now (bytes .entry)) from 0 ≡ esc) × (getD (now (bytes .entry)) (from + 1) 0 ≡ last)) ⌝ }
+    ensures { λ r. ⌜ (r ≡ true
+        → (from + 2 ≤ to) × (getD (now (bytes .entry)) from 0 ≡ esc) × (getD (now (bytes .entry)) (from + 1) 0 ≡ last)) ⌝ }
 {
     if to - from < 2 {
         return false;
@@ -45,7 +46,9 @@ fn escape_then(bytes: &[u8], from: usize, to: usize, last: u8) -> bool
 
 fn run_opening(bytes: &[u8], from: usize, to: usize) -> Defined
     requires { ⌜ (from ≤ to) × (to ≤ length (now bytes)) ⌝ }
-    ensures ran { λ r. ⌜ ((s : Sets) (f st : List ℕ) → Idle (now (bytes .entry)) from (coded (codingOf s Waiting.Nothing f) st) (r .count) (coded (codingOf s (r .waiting) f) st)) ⌝ }
+    ensures ran { λ r. ⌜ ((s : Sets) (f st : List ℕ)
+        → Idle (now (bytes .entry)) from (coded (codingOf s Waiting.Nothing f) st) (r .count)
+        (coded (codingOf s (r .waiting) f) st)) ⌝ }
     ensures most { λ r. ⌜ from + r .count ≤ to ⌝ }
 {
     if escape_then(bytes, from, to, OPENS) {
@@ -66,7 +69,10 @@ fn run_body(
     to: usize,
 ) -> Defined
     requires { ⌜ (Sized (now store)) × (IsName (definition .name)) × (from ≤ to) × (to ≤ length (now bytes)) ⌝ }
-    ensures ran { λ r. ⌜ ((s : Sets) → Idle (now (bytes .entry)) from (coded (codingOf s (Waiting.Body definition) (now (firsts .entry))) (now (store .entry))) (r .count) (coded (codingOf s (r .waiting) (now (firsts .exit))) (now (store .exit)))) ⌝ }
+    ensures ran { λ r. ⌜ ((s : Sets)
+        → Idle (now (bytes .entry)) from
+        (coded (codingOf s (Waiting.Body definition) (now (firsts .entry))) (now (store .entry))) (r .count)
+        (coded (codingOf s (r .waiting) (now (firsts .exit))) (now (store .exit)))) ⌝ }
     ensures most { λ r. ⌜ from + r .count ≤ to ⌝ }
 {
     let filled = fill(store, firsts, definition, bytes, from, to);
@@ -96,7 +102,9 @@ pub(crate) fn run_definition(
     to: usize,
 ) -> Defined
     requires { ⌜ (Sized (now store)) × (waitingFits waiting ≡ true) × (from ≤ to) × (to ≤ length (now bytes)) ⌝ }
-    ensures ran { λ r. ⌜ ((s : Sets) → Idle (now (bytes .entry)) from (coded (codingOf s waiting (now (firsts .entry))) (now (store .entry))) (r .count) (coded (codingOf s (r .waiting) (now (firsts .exit))) (now (store .exit)))) ⌝ }
+    ensures ran { λ r. ⌜ ((s : Sets)
+        → Idle (now (bytes .entry)) from (coded (codingOf s waiting (now (firsts .entry))) (now (store .entry)))
+        (r .count) (coded (codingOf s (r .waiting) (now (firsts .exit))) (now (store .exit)))) ⌝ }
     ensures most { λ r. ⌜ from + r .count ≤ to ⌝ }
 {
     match waiting {

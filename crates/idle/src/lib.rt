@@ -70,7 +70,8 @@ pub fn run_idle(
     to: usize,
 ) -> Idled
     requires { ⌜ (Sized (now store)) × (waitingFits waiting ≡ true) × (from ≤ to) × (to ≤ length (now bytes)) ⌝ }
-    ensures ran { λ r. ⌜ Idle (now (bytes .entry)) from (coded (codingOf sets waiting (now (firsts .entry))) (now (store .entry))) (r .count) (coded (codingOf (r .sets) (r .waiting) (now (firsts .exit))) (now (store .exit))) ⌝ }
+    ensures ran { λ r. ⌜ Idle (now (bytes .entry)) from (coded (codingOf sets waiting (now (firsts .entry))) (now (store .entry)))
+        (r .count) (coded (codingOf (r .sets) (r .waiting) (now (firsts .exit))) (now (store .exit))) ⌝ }
     ensures most { λ r. ⌜ from + r .count ≤ to ⌝ }
 {
     let mut sets = sets;

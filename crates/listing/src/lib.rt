@@ -99,7 +99,8 @@ fn least(a: usize, b: usize) -> usize
 // the byte after each.
 pub fn put_lines(text: &mut [u8], out: &[u8], written: usize) -> usize
     requires { ⌜ 24 * length (now out) ≤ 5 * length (now text) ⌝ }
-    ensures { λ r. ⌜ Put 0 (linesTo (now (out .entry)) (min written (length (now (out .entry))) / 40)) (now (text .entry)) (now (text .exit)) r ⌝ }
+    ensures { λ r. ⌜ Put 0 (linesTo (now (out .entry)) (min written (length (now (out .entry))) / 40)) (now (text .entry))
+        (now (text .exit)) r ⌝ }
     ensures { λ r. ⌜ Counts r (now (text .exit)) ⌝ }
 {
     let records = least(written, out.len()) / RECORD_SIZE;

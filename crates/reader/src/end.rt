@@ -62,7 +62,13 @@ fn rest(session: Session, answer: Answer) -> Ended
 }
 
 fn stop(session: Session, refusal: Refusal) -> Ended
-    ensures { λ r. ⌜ r ≡ record { answer = Answer.Refused refusal; written = 0; session = sessionWith (Status.Stopped refusal) (session .drawing) session } ⌝ }
+    ensures { λ r. ⌜ r
+        ≡ record {
+          answer = Answer.Refused refusal;
+          written = 0;
+          session = sessionWith (Status.Stopped refusal) (session .drawing)
+              session;
+        } ⌝ }
 {
     let drawing = session.drawing;
     rest(
@@ -73,7 +79,9 @@ fn stop(session: Session, refusal: Refusal) -> Ended
 
 // No command is open: nothing is drawn.
 fn close_none(session: Session) -> Ended
-    ensures { λ r. ⌜ r ≡ record { answer = Answer.Done; written = 0; session = sessionWith Status.Ended (closed (session .drawing)) session } ⌝ }
+    ensures { λ r. ⌜ r
+        ≡ record
+        { answer = Answer.Done; written = 0; session = sessionWith Status.Ended (closed (session .drawing)) session } ⌝ }
 {
     let drawing = session.drawing;
     let point = drawing.pen.point;
@@ -95,7 +103,9 @@ fn close_none(session: Session) -> Ended
 
 fn close_command(session: Session, out: &mut [u8]) -> Ended
     requires { ⌜ (drawingFits (session .drawing) ≡ true) × (roomForStep ≤ length (now out)) ⌝ }
-    ensures { λ r. ⌜ ((st : List ℕ) → endingOf r st (now (out .exit)) ≡ handed (ended (act Action.Close (session .drawing)) (stateLent session st)) (now (out .entry))) ⌝ }
+    ensures { λ r. ⌜ ((st : List ℕ)
+        → endingOf r st (now (out .exit))
+        ≡ handed (ended (act Action.Close (session .drawing)) (stateLent session st)) (now (out .entry))) ⌝ }
 {
     let drawing = session.drawing;
     let pen = drawing.pen;
@@ -125,7 +135,8 @@ fn close_command(session: Session, out: &mut [u8]) -> Ended
 
 fn end_running(session: Session, store: &[u8], out: &mut [u8]) -> Ended
     requires { ⌜ Valid (stateLent session (now store)) ⌝ }
-    ensures { λ r. ⌜ endingOf r (now (store .entry)) (now (out .exit)) ≡ handed (ending (length (now (out .entry))) (stateLent session (now (store .entry)))) (now (out .entry)) ⌝ }
+    ensures { λ r. ⌜ endingOf r (now (store .entry)) (now (out .exit))
+        ≡ handed (ending (length (now (out .entry))) (stateLent session (now (store .entry)))) (now (out .entry)) ⌝ }
 {
     let bodies = session.bodies;
     let cells = bodies.cells;

@@ -27,7 +27,11 @@ ghost use Rattle.handing.specs.Handing.{handedOf};
 // The turns of a reading, until one ends it.
 pub fn read(session: Session, store: &mut [u8], piece: &[u8], out: &mut [u8]) -> Fed
     requires { ⌜ Valid (stateLent session (now store)) ⌝ }
-    ensures { λ r. ⌜ handedOf r (now (store .exit)) (now (out .exit)) ≡ handed (reading (Room (length (now (out .entry)))) (session .budget - session .steps) (stateLent session (now (store .entry))) (now (piece .entry))) (now (out .entry)) ⌝ }
+    ensures { λ r. ⌜ handedOf r (now (store .exit)) (now (out .exit))
+        ≡ handed
+        (reading (Room (length (now (out .entry)))) (session .budget - session .steps)
+        (stateLent session (now (store .entry))) (now (piece .entry)))
+        (now (out .entry)) ⌝ }
 {
     let budget = session.budget;
     let bodies = session.bodies;

@@ -79,7 +79,8 @@ fn lines(
     at: usize,
 ) -> Lined
     requires { ⌜ (from ≤ to) × (to ≤ length (now bytes)) × (at ≤ length (now out)) ⌝ }
-    ensures ran { λ r. ⌜ Lines (now (bytes .entry)) from head pel point at (now (out .entry)) (r .count) (r .point) (r .at) (now (out .exit)) ⌝ }
+    ensures ran { λ r. ⌜ Lines (now (bytes .entry)) from head pel point at (now (out .entry)) (r .count) (r .point) (r .at)
+        (now (out .exit)) ⌝ }
     ensures most { λ r. ⌜ from + r .count ≤ to ⌝ }
 {
     let most = most_steps((to - from) / 3, out.len() - at);
@@ -138,7 +139,9 @@ pub fn draw_strokes(
     at: usize,
 ) -> Lined
     requires { ⌜ (from ≤ to) × (to ≤ length (now bytes)) × (at ≤ length (now out)) ⌝ }
-    ensures ran { λ r. ⌜ ((m : List ℕ) → Run Set.Pdi (now (bytes .entry)) from (standing pen command look m at (now (out .entry))) (r .count) (standing (penAfter (r .count) pen (r .point)) command look m (r .at) (now (out .exit)))) ⌝ }
+    ensures ran { λ r. ⌜ ((m : List ℕ)
+        → Run Set.Pdi (now (bytes .entry)) from (standing pen command look m at (now (out .entry))) (r .count)
+        (standing (penAfter (r .count) pen (r .point)) command look m (r .at) (now (out .exit)))) ⌝ }
     ensures most { λ r. ⌜ from + r .count ≤ to ⌝ }
 {
     let point = pen.point;

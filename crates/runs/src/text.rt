@@ -45,8 +45,11 @@ fn put_characters(
     out: &mut [u8],
     at: usize,
 ) -> usize
-    requires { ⌜ (command .opcode ≡ 0) × (from + most ≤ length (now bytes)) × ((n : ℕ) → n < most → at + (40 * n + roomForStep) ≤ length (now out)) ⌝ }
-    ensures run { λ r. ⌜ ((m : List ℕ) → Run (Set.Characters set) (now (bytes .entry)) from (standing pen command look m at (now (out .entry))) r (typed r pen command look m at (now (out .exit)))) ⌝ }
+    requires { ⌜ (command .opcode ≡ 0) × (from + most ≤ length (now bytes))
+        × ((n : ℕ) → n < most → at + (40 * n + roomForStep) ≤ length (now out)) ⌝ }
+    ensures run { λ r. ⌜ ((m : List ℕ)
+        → Run (Set.Characters set) (now (bytes .entry)) from (standing pen command look m at (now (out .entry))) r
+        (typed r pen command look m at (now (out .exit)))) ⌝ }
     ensures most { λ r. ⌜ r ≤ most ⌝ }
 {
     let last = last_character(set);
@@ -90,7 +93,9 @@ pub fn run_text(
     at: usize,
 ) -> Ran
     requires { ⌜ (command .opcode ≡ 0) × (from ≤ to) × (to ≤ length (now bytes)) × (at ≤ length (now out)) ⌝ }
-    ensures ran { λ r. ⌜ ((m : List ℕ) → Run (Set.Characters set) (now (bytes .entry)) from (standing pen command look m at (now (out .entry))) (r .count) (standing (r .pen) (r .command) look m (r .at) (now (out .exit)))) ⌝ }
+    ensures ran { λ r. ⌜ ((m : List ℕ)
+        → Run (Set.Characters set) (now (bytes .entry)) from (standing pen command look m at (now (out .entry)))
+        (r .count) (standing (r .pen) (r .command) look m (r .at) (now (out .exit)))) ⌝ }
     ensures most { λ r. ⌜ from + r .count ≤ to ⌝ }
 {
     let most = most_steps(to - from, out.len() - at);

@@ -39,7 +39,8 @@ fn link_cell(
     cell: u8,
 ) -> Definition
     requires { ⌜ (Sized (now store)) × (IsName (definition .name)) ⌝ }
-    ensures { λ r. ⌜ fillingOf r (now (firsts .exit)) (now (store .exit)) ≡ linkCell (eqb (definition .last) 0) cell (fillingOf definition (now (firsts .entry)) (now (store .entry))) ⌝ }
+    ensures { λ r. ⌜ fillingOf r (now (firsts .exit)) (now (store .exit))
+        ≡ linkCell (eqb (definition .last) 0) cell (fillingOf definition (now (firsts .entry)) (now (store .entry))) ⌝ }
 {
     let longer = Definition {
         name: definition.name,
@@ -61,8 +62,11 @@ fn store_in_new(
     byte: u8,
 ) -> StoreAnswer
     requires { ⌜ (Sized (now store)) × (IsName (definition .name)) ⌝ }
-    ensures stored { λ r. ⌜ storingOf r (now (firsts .exit)) (now (store .exit)) ≡ storeInNew (nextOf (now (store .entry)) 0) (fillingOf definition (now (firsts .entry)) (now (store .entry))) byte ⌝ }
-    ensures refused { λ r. ⌜ (KeptIfRefused r (now (firsts .entry)) (now (firsts .exit))) × (KeptIfRefused r (now (store .entry)) (now (store .exit))) ⌝ }
+    ensures stored { λ r. ⌜ storingOf r (now (firsts .exit)) (now (store .exit))
+        ≡ storeInNew (nextOf (now (store .entry)) 0) (fillingOf definition (now (firsts .entry)) (now (store .entry)))
+        byte ⌝ }
+    ensures refused { λ r. ⌜ (KeptIfRefused r (now (firsts .entry)) (now (firsts .exit)))
+        × (KeptIfRefused r (now (store .entry)) (now (store .exit))) ⌝ }
 {
     let cell = next_of(store, 0);
     if cell == 0 {
@@ -82,8 +86,10 @@ pub fn store_byte(
     byte: u8,
 ) -> StoreAnswer
     requires { ⌜ (Sized (now store)) × (IsName (definition .name)) ⌝ }
-    ensures stored { λ r. ⌜ storingOf r (now (firsts .exit)) (now (store .exit)) ≡ storeByte (fillingOf definition (now (firsts .entry)) (now (store .entry))) byte ⌝ }
-    ensures refused { λ r. ⌜ (KeptIfRefused r (now (firsts .entry)) (now (firsts .exit))) × (KeptIfRefused r (now (store .entry)) (now (store .exit))) ⌝ }
+    ensures stored { λ r. ⌜ storingOf r (now (firsts .exit)) (now (store .exit))
+        ≡ storeByte (fillingOf definition (now (firsts .entry)) (now (store .entry))) byte ⌝ }
+    ensures refused { λ r. ⌜ (KeptIfRefused r (now (firsts .entry)) (now (firsts .exit)))
+        × (KeptIfRefused r (now (store .entry)) (now (store .exit))) ⌝ }
 {
     if definition.last == 0 {
         return store_in_new(store, firsts, definition, byte);

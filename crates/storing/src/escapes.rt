@@ -55,8 +55,10 @@ pub fn store_escape_and(
     byte: u8,
 ) -> StoreAnswer
     requires { ⌜ (Sized (now store)) × (IsName (definition .name)) ⌝ }
-    ensures stored { λ r. ⌜ storingOf r (now (firsts .exit)) (now (store .exit)) ≡ storeEscapeAnd (fillingOf definition (now (firsts .entry)) (now (store .entry))) byte ⌝ }
-    ensures refused { λ r. ⌜ (KeptIfRefused r (now (firsts .entry)) (now (firsts .exit))) × (KeptIfRefused r (now (store .entry)) (now (store .exit))) ⌝ }
+    ensures stored { λ r. ⌜ storingOf r (now (firsts .exit)) (now (store .exit))
+        ≡ storeEscapeAnd (fillingOf definition (now (firsts .entry)) (now (store .entry))) byte ⌝ }
+    ensures refused { λ r. ⌜ (KeptIfRefused r (now (firsts .entry)) (now (firsts .exit)))
+        × (KeptIfRefused r (now (store .entry)) (now (store .exit))) ⌝ }
 {
     match room_for_two(store, definition.last) {
         Room::Refused(refusal) => StoreAnswer::Refused(refusal),

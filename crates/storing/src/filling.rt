@@ -38,7 +38,9 @@ fn run_end(from: usize, to: usize, room: u8) -> usize
 // Stores the bytes of a definition whose last cell is given, up to an ESC, a byte over 127 or the end of the cell, and answers how many.
 fn store_run(store: &mut [u8], last: u8, bytes: &[u8], from: usize, to: usize) -> usize
     requires { ⌜ (Sized (now store)) × (from ≤ to) × (to ≤ length (now bytes)) ⌝ }
-    ensures stored { λ r. ⌜ ((name : ℕ) (firsts : List ℕ) → Stores (now (bytes .entry)) from (fillingOf (record { name = name; last = last }) firsts (now (store .entry))) r (fillingOf (record { name = name; last = last }) firsts (now (store .exit)))) ⌝ }
+    ensures stored { λ r. ⌜ ((name : ℕ) (firsts : List ℕ)
+        → Stores (now (bytes .entry)) from (fillingOf (record { name = name; last = last }) firsts (now (store .entry)))
+        r (fillingOf (record { name = name; last = last }) firsts (now (store .exit)))) ⌝ }
     ensures most { λ r. ⌜ from + r ≤ to ⌝ }
 {
     if last == 0 {
@@ -81,7 +83,8 @@ pub fn fill(
     to: usize,
 ) -> Filled
     requires { ⌜ (Sized (now store)) × (IsName (definition .name)) × (from ≤ to) × (to ≤ length (now bytes)) ⌝ }
-    ensures stored { λ r. ⌜ Stores (now (bytes .entry)) from (fillingOf definition (now (firsts .entry)) (now (store .entry))) (r .count) (fillingOf (record { name = definition .name; last = r .last }) (now (firsts .exit)) (now (store .exit))) ⌝ }
+    ensures stored { λ r. ⌜ Stores (now (bytes .entry)) from (fillingOf definition (now (firsts .entry)) (now (store .entry))) (r .count)
+        (fillingOf (record { name = definition .name; last = r .last }) (now (firsts .exit)) (now (store .exit))) ⌝ }
     ensures most { λ r. ⌜ from + r .count ≤ to ⌝ }
 {
     let name = definition.name;

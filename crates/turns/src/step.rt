@@ -108,7 +108,8 @@ fn opens_inside(depth: u8, waiting: Waiting, byte: u8) -> bool
 // The innermost body goes on at the cursor. Without a body there is none to keep.
 fn read_on(cells: &mut [u8; 8], places: &mut [u8; 8], depth: u8, cursor: Cursor)
     requires { ⌜ depth ≤ 8 ⌝ }
-    ensures { λ _. ⌜ bodiesOf depth (now (cells .exit)) (now (places .exit)) ≡ readOn depth cursor (bodiesOf depth (now (cells .entry)) (now (places .entry))) ⌝ }
+    ensures { λ _. ⌜ bodiesOf depth (now (cells .exit)) (now (places .exit))
+        ≡ readOn depth cursor (bodiesOf depth (now (cells .entry)) (now (places .entry))) ⌝ }
 {
     if depth == 0 {
         return;
@@ -126,7 +127,12 @@ fn call(
     firsts: &[u8; 96],
 ) -> Turned
     requires { ⌜ (Ready progress (onward .at)) × (IsName name) ⌝ }
-    ensures left { λ r. ⌜ ((budget : ℕ) (d : Drawing) (st out : List ℕ) → leftOf budget progress r (now (cells .exit)) (now (places .exit)) (now (firsts .entry)) d st out ≡ leaves (stepBy (progress .depth) (onward .cursor) (call name (codingAfter reacted progress (now (firsts .entry)))) (stateAt budget progress (now (cells .entry)) (now (places .entry)) (now (firsts .entry)) d st)) (progress .at) (progress .written) out) ⌝ }
+    ensures left { λ r. ⌜ ((budget : ℕ) (d : Drawing) (st out : List ℕ)
+        → leftOf budget progress r (now (cells .exit)) (now (places .exit)) (now (firsts .entry)) d st out
+        ≡ leaves
+        (stepBy (progress .depth) (onward .cursor) (call name (codingAfter reacted progress (now (firsts .entry))))
+        (stateAt budget progress (now (cells .entry)) (now (places .entry)) (now (firsts .entry)) d st))
+        (progress .at) (progress .written) out) ⌝ }
     ensures due { λ r. ⌜ DrawDue progress r ⌝ }
 {
     let depth = progress.depth;
@@ -153,7 +159,13 @@ fn idle(
     places: &mut [u8; 8],
 ) -> Turned
     requires { ⌜ Ready progress (onward .at) ⌝ }
-    ensures left { λ r. ⌜ ((budget : ℕ) (d : Drawing) (firsts st out : List ℕ) → leftOf budget progress r (now (cells .exit)) (now (places .exit)) firsts d st out ≡ leaves (stepBy (progress .depth) (onward .cursor) (onOutcome (act Action.Idle d) (codingAfter reacted progress firsts) st) (stateAt budget progress (now (cells .entry)) (now (places .entry)) firsts d st)) (progress .at) (progress .written) out) ⌝ }
+    ensures left { λ r. ⌜ ((budget : ℕ) (d : Drawing) (firsts st out : List ℕ)
+        → leftOf budget progress r (now (cells .exit)) (now (places .exit)) firsts d st out
+        ≡ leaves
+        (stepBy (progress .depth) (onward .cursor)
+        (onOutcome (act Action.Idle d) (codingAfter reacted progress firsts) st)
+        (stateAt budget progress (now (cells .entry)) (now (places .entry)) firsts d st))
+        (progress .at) (progress .written) out) ⌝ }
     ensures due { λ r. ⌜ DrawDue progress r ⌝ }
 {
     let depth = progress.depth;
@@ -169,7 +181,12 @@ fn idle(
 // The body is read on once the action is drawn.
 fn draws(progress: Progress, onward: Onward, action: Action, reacted: Reacted) -> Turned
     requires { ⌜ Ready progress (onward .at) ⌝ }
-    ensures left { λ r. ⌜ ((budget : ℕ) (cells places firsts : List ℕ) (d : Drawing) (st out : List ℕ) → leftOf budget progress r cells places firsts d st out ≡ leaves (stepBy (progress .depth) (onward .cursor) (onOutcome (act action d) (codingAfter reacted progress firsts) st) (stateAt budget progress cells places firsts d st)) (progress .at) (progress .written) out) ⌝ }
+    ensures left { λ r. ⌜ ((budget : ℕ) (cells places firsts : List ℕ) (d : Drawing) (st out : List ℕ)
+        → leftOf budget progress r cells places firsts d st out
+        ≡ leaves
+        (stepBy (progress .depth) (onward .cursor) (onOutcome (act action d) (codingAfter reacted progress firsts) st)
+        (stateAt budget progress cells places firsts d st))
+        (progress .at) (progress .written) out) ⌝ }
     ensures due { λ r. ⌜ DrawDue progress r ⌝ }
 {
     let cursor = onward.cursor;
@@ -189,7 +206,12 @@ fn ask(
     places: &mut [u8; 8],
 ) -> Turned
     requires { ⌜ Ready progress (onward .at) ⌝ }
-    ensures left { λ r. ⌜ ((budget : ℕ) (d : Drawing) (firsts st out : List ℕ) → leftOf budget progress r (now (cells .exit)) (now (places .exit)) firsts d st out ≡ leaves (stepBy (progress .depth) (onward .cursor) (onOutcome (act action d) (codingAfter reacted progress firsts) st) (stateAt budget progress (now (cells .entry)) (now (places .entry)) firsts d st)) (progress .at) (progress .written) out) ⌝ }
+    ensures left { λ r. ⌜ ((budget : ℕ) (d : Drawing) (firsts st out : List ℕ)
+        → leftOf budget progress r (now (cells .exit)) (now (places .exit)) firsts d st out
+        ≡ leaves
+        (stepBy (progress .depth) (onward .cursor) (onOutcome (act action d) (codingAfter reacted progress firsts) st)
+        (stateAt budget progress (now (cells .entry)) (now (places .entry)) firsts d st))
+        (progress .at) (progress .written) out) ⌝ }
     ensures due { λ r. ⌜ DrawDue progress r ⌝ }
 {
     match action {
@@ -209,7 +231,13 @@ pub(crate) fn interpret(
     store: &mut [u8],
 ) -> Turned
     requires { ⌜ (Ready progress (onward .at)) × (Sized (now store)) × (waitingFits (progress .waiting) ≡ true) ⌝ }
-    ensures left { λ r. ⌜ ((budget : ℕ) (d : Drawing) (out : List ℕ) → leftOf budget progress r (now (cells .exit)) (now (places .exit)) (now (firsts .exit)) d (now (store .exit)) out ≡ leaves (interpreted (progress .depth) (onward .cursor) byte (stateAt budget progress (now (cells .entry)) (now (places .entry)) (now (firsts .entry)) d (now (store .entry)))) (progress .at) (progress .written) out) ⌝ }
+    ensures left { λ r. ⌜ ((budget : ℕ) (d : Drawing) (out : List ℕ)
+        → leftOf budget progress r (now (cells .exit)) (now (places .exit)) (now (firsts .exit)) d (now (store .exit))
+        out
+        ≡ leaves
+        (interpreted (progress .depth) (onward .cursor) byte
+        (stateAt budget progress (now (cells .entry)) (now (places .entry)) (now (firsts .entry)) d (now (store .entry))))
+        (progress .at) (progress .written) out) ⌝ }
     ensures due { λ r. ⌜ DrawDue progress r ⌝ }
 {
     let sets = progress.sets;
@@ -243,8 +271,10 @@ pub fn draw(
     at: usize,
 ) -> Drawn
     requires { ⌜ (depth ≤ 8) × (drawingFits (drawingOf pen command look (now map)) ≡ true) × (at + roomForStep ≤ length (now out)) ⌝ }
-    ensures drawn { λ r. ⌜ carriedOf r (now (map .exit)) (now (out .exit)) ≡ carryOut (act action) (drawingOf pen command look (now (map .entry))) at (now (out .entry)) ⌝ }
-    ensures bodies { λ r. ⌜ bodiesOf depth (now (cells .exit)) (now (places .exit)) ≡ readOnIf (r .refused) depth cursor (bodiesOf depth (now (cells .entry)) (now (places .entry))) ⌝ }
+    ensures drawn { λ r. ⌜ carriedOf r (now (map .exit)) (now (out .exit))
+        ≡ carryOut (act action) (drawingOf pen command look (now (map .entry))) at (now (out .entry)) ⌝ }
+    ensures bodies { λ r. ⌜ bodiesOf depth (now (cells .exit)) (now (places .exit))
+        ≡ readOnIf (r .refused) depth cursor (bodiesOf depth (now (cells .entry)) (now (places .entry))) ⌝ }
 {
     let drawn = act(action, pen, command, look, map, out, at);
     if drawn.refused {

@@ -40,7 +40,9 @@ fn next_byte(
     at: usize,
 ) -> Read
     requires { ⌜ (Sized (now store)) × (depth ≤ 8) × (depth ≡ 0 → at < length (now piece)) ⌝ }
-    ensures { λ r. ⌜ r ≡ nextByte depth (now (store .entry)) (bodiesOf depth (now (cells .entry)) (now (places .entry))) (drop at (now (piece .entry))) ⌝ }
+    ensures { λ r. ⌜ r
+        ≡ nextByte depth (now (store .entry)) (bodiesOf depth (now (cells .entry)) (now (places .entry)))
+        (drop at (now (piece .entry))) ⌝ }
 {
     if depth == 0 {
         return Read::Byte(piece[at], Cursor { cell: 0, place: 0 });
@@ -75,8 +77,16 @@ pub fn turn(
     store: &mut [u8],
     piece: &[u8],
 ) -> Turned
-    requires { ⌜ (Sized (now store)) × (progress .depth ≤ 8) × (waitingFits (progress .waiting) ≡ true) × (progress .at ≤ length (now piece)) ⌝ }
-    ensures left { λ r. ⌜ ((d : Drawing) (out : List ℕ) → leftOf budget (atDepth (r .progress .depth) progress) r (now (cells .exit)) (now (places .exit)) (now (firsts .exit)) d (now (store .exit)) out ≡ leaves (turn free (budget - progress .steps) (stateAt budget progress (now (cells .entry)) (now (places .entry)) (now (firsts .entry)) d (now (store .entry))) (drop (progress .at) (now (piece .entry)))) (progress .at) (progress .written) out) ⌝ }
+    requires { ⌜ (Sized (now store)) × (progress .depth ≤ 8) × (waitingFits (progress .waiting) ≡ true)
+        × (progress .at ≤ length (now piece)) ⌝ }
+    ensures left { λ r. ⌜ ((d : Drawing) (out : List ℕ)
+        → leftOf budget (atDepth (r .progress .depth) progress) r (now (cells .exit)) (now (places .exit))
+        (now (firsts .exit)) d (now (store .exit)) out
+        ≡ leaves
+        (turn free (budget - progress .steps)
+        (stateAt budget progress (now (cells .entry)) (now (places .entry)) (now (firsts .entry)) d (now (store .entry)))
+        (drop (progress .at) (now (piece .entry))))
+        (progress .at) (progress .written) out) ⌝ }
     ensures due { λ r. ⌜ DrawDue (atDepth (r .progress .depth) progress) r ⌝ }
     ensures room { λ r. ⌜ RoomBy (r .course) free ⌝ }
 {
