@@ -55,7 +55,7 @@ fn graphic(set: Set, byte: u8) -> Reacted
     }
 }
 
-// A control drops the single shift.
+// A byte read by itself: a control, or one of the set that the element names. A control drops the single shift.
 pub(crate) fn read_from(element: Element, sets: Sets, byte: u8) -> Reacted
     ensures { λ r. ⌜ ((w : Waiting) (f st : List ℕ)
         → reactionOf sets r f st ≡ readFrom element (classOf byte) (codingOf sets w f) st byte) ⌝ }

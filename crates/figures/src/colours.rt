@@ -111,7 +111,7 @@ fn shade_map(
     one_record(record, pen, command, look, out, at)
 }
 
-// The mode is the look's own.
+// SET COLOUR: mode 0 sets the colour, modes 1 and 2 write the map. The mode is the look's own.
 fn shade_to(
     mode: Mode,
     hue: Hue,

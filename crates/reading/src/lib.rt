@@ -24,7 +24,9 @@ ghost use Rattle.rules.proofs.Steps.{Valid};
 ghost use Rattle.rules.specs.Step.{stateLent};
 ghost use Rattle.handing.specs.Handing.{handedOf};
 
-// The turns of a reading, until one ends it.
+// The turns of a reading, until one ends it. Before each turn runs take as many bytes at once as they can: those that
+// write no record, then strokes, whose loop is the shortest, then all else that is drawn. A run may stop early without saying why, since
+// the turn does the rest. Whatever is half read, an operand, a sequence or a body, lies in the session, so that the next call goes on.
 pub fn read(session: Session, store: &mut [u8], piece: &[u8], out: &mut [u8]) -> Fed
     requires { ⌜ Valid (stateLent session (now store)) ⌝ }
     ensures { λ r. ⌜ handedOf r (now (store .exit)) (now (out .exit))

@@ -66,7 +66,8 @@ pub fn at_depth(progress: Progress, depth: u8) -> Progress
     progress
 }
 
-// With so many bytes of the output free.
+// One turn, with so many bytes of the output free: spent bodies are removed, then come the tests in their order, then the byte is
+// interpreted. What it asks of drawing is left to the caller.
 pub fn turn(
     progress: Progress,
     budget: u32,

@@ -32,7 +32,7 @@ fn fits(session: Session) -> bool
     waiting_fits(waiting) && drawing_fits(pen, command, look)
 }
 
-// 12.
+// 12: the size of the store.
 fn of_size(size: usize) -> Verdict
     ensures { λ r. ⌜ r ≡ verdict (eqb size storeSize) Status.Running true ⌝ }
 {
@@ -53,7 +53,7 @@ fn of_status(status: Status) -> Verdict
     }
 }
 
-// 13.
+// 13: the fields of the session.
 fn of_ranges(session: Session) -> Verdict
     ensures { λ r. ⌜ r ≡ verdict true Status.Running (fits session) ⌝ }
 {
