@@ -7,12 +7,7 @@ use mathlib.Core.List.{List, [], _∷_, _++_, append-assoc, append-nil}
 use lib.ListN.{length, drop}
 use lib.Seq.{drop-append-le, drop-drop}
 use borrow.Author.Tests.{ltb-true}
-use Rattle.rules.specs.declared.Record.{Record}
-use Rattle.rules.specs.declared.Refusal.{Refusal}
-use Rattle.rules.specs.declared.Answer.{Answer}
-use Rattle.rules.specs.declared.Answer.the-variants.{Done, Full, Refused}
-use Rattle.rules.specs.declared.Verdict.{Verdict}
-use Rattle.rules.specs.declared.Verdict.the-variants.{Passes, Fails}
+use Rattle.rules.specs.Types.{Record, Refusal, Answer, Done, Full, Refused, Verdict, Passes, Fails}
 use Rattle.rules.specs.Step.{State, removeSpent, Source, NothingLeft, Found, seek, Goes, interpret}
 use Rattle.rules.specs.Reading.{Reading, Limit, Room, Always, roomForStep, reading, tests, stepsLeft, readTo, undivided}
 use Rattle.rules.specs.Calls.{feed, unread, handed, Lent, returned, join, feeds, lentBytes}

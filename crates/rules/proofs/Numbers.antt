@@ -3,11 +3,9 @@ use Prim.Native.Nat.{ℕ, zero, suc}
 use mathlib.Core.Path.{_≡_, refl, sym, ap, _∙_}
 use mathlib.Core.List.{List, [], _∷_}
 use lib.ListN.{getD}
-use Rattle.rules.specs.declared.Refusal.the-variants.{BudgetUsed, ByteOver127, NameBelow, Unsupported, DefinitionInBody, StoreFull, TooDeep, TooManyVertices, EndInside, BodyBytesLeft, StoreSize, OutOfRange, AfterEnd, AddressOver15}
-use Rattle.rules.specs.declared.Answer.{Answer}
-use Rattle.rules.specs.declared.Answer.the-variants.{Done, Full, Refused}
-use Rattle.rules.specs.declared.Shade.{Shade}
-use Rattle.rules.specs.declared.Shade.the-variants.{Of, NoAddress}
+use Rattle.rules.specs.Types.{BudgetUsed, ByteOver127, NameBelow, Unsupported, DefinitionInBody, StoreFull, TooDeep}
+use Rattle.rules.specs.Types.{TooManyVertices, EndInside, BodyBytesLeft, StoreSize, OutOfRange, AfterEnd, AddressOver15}
+use Rattle.rules.specs.Types.{Answer, Done, Full, Refused, Shade, Of, NoAddress}
 use Rattle.rules.specs.Calls.{refusalNumber, numberOf, shadeNumber, shadeValues}
 
 -- The answers, each at its number

@@ -7,10 +7,7 @@ use mathlib.Core.List.{List, [], _∷_, _++_, map}
 use lib.ListN.{getD, replicate}
 use lib.Dec.{ltb, leb, eqb}
 use borrow.Author.Tests.{ltb-true}
-use Rattle.rules.specs.declared.Due.{Due}
-use Rattle.rules.specs.declared.Due.the-variants.{First, Second, Third}
-use Rattle.rules.specs.declared.Role.{Role}
-use Rattle.rules.specs.declared.Role.the-variants.{MoveTo, Start}
+use Rattle.rules.specs.Types.{Due, First, Second, Third, Role, MoveTo, Start}
 use Rattle.rules.specs.Drawing.{other, rows, rowOf, roleOf}
 use Rattle.rules.proofs.Bools.{by-test, pick-yes, pick-no}
 use Rattle.rules.proofs.Compute.{rules}
