@@ -10,12 +10,11 @@ use lib.Seq.{set-getD}
 use lib.Dec.{ltb}
 use borrow.Author.Tests.{ltb-true, ltb-false}
 use Rattle.rules.specs.Types.{Command, Cursor, Drawing, Look, Pen, Point, Set, Macro, Sets, Waiting, Nothing, Running}
+use Rattle.rules.specs.Numbers.{mostBytes, roomForStep}
 use Rattle.rules.specs.Bodies.{bodyAt, depthLeft}
 use Rattle.rules.specs.Coding.{setOf}
 use Rattle.rules.specs.Ranges.{domainFits, colourFits, commandFits, drawingFits}
 use Rattle.rules.specs.Step.{stateOf}
-use Rattle.rules.specs.Store.{mostBytes}
-use Rattle.rules.specs.Reading.{roomForStep}
 use Rattle.rules.proofs.Bools.{and-left, and-right}
 use Rattle.macros.specs.Stretch.{Gives}
 use Rattle.bodies.specs.Stack.{bodiesOf}

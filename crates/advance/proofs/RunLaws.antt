@@ -11,12 +11,13 @@ use lib.Dec.{ltb}
 use borrow.Author.Tests.{le-ltb}
 use Rattle.rules.specs.Types.{Action, Idle as Idle·action, Bodies, Column2, Above, Coding, Cursor, Drawing, Record, Macro}
 use Rattle.rules.specs.Types.{Running, Waiting, Nothing}
+use Rattle.rules.specs.Numbers.{roomForStep}
 use Rattle.rules.specs.Choice.{pick}
 use Rattle.rules.specs.Bodies.{bodyAt, hasLeft, depthLeft, unspent}
 use Rattle.rules.specs.Coding.{React, setOf, wait, graphic, classOf, reactTo, react, afterEscape}
 use Rattle.rules.specs.Drawing.{Draw, act}
 use Rattle.rules.specs.Record.{bytesOfAll}
-use Rattle.rules.specs.Reading.{roomForStep, consumedBy}
+use Rattle.rules.specs.Reading.{consumedBy}
 use Rattle.rules.specs.Store.{firstOf}
 use Rattle.rules.specs.Step.{State, stateOf, removeSpent, Source, FromBody, FromPiece, Found, fromBody, seekAt, seek, Goes, onOutcome, call, onReaction, opensInside, interpret}
 use Rattle.records.proofs.Writes.{overwrite-none}

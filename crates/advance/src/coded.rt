@@ -18,10 +18,10 @@ ghost use mathlib.Core.Bool.{true};
 ghost use mathlib.Core.List.{List};
 ghost use Prim.Native.Nat.{ℕ, _+_, _-_, _≤_};
 ghost use lib.ListN.{length};
+ghost use Rattle.rules.specs.Numbers.{roomForStep};
 ghost use Rattle.rules.specs.declared.Drawing.{Drawing};
 ghost use Rattle.rules.specs.Coding.{setOf};
 ghost use Rattle.rules.specs.Ranges.{waitingFits};
-ghost use Rattle.rules.specs.Reading.{roomForStep};
 ghost use Rattle.macros.specs.Lent.{Sized};
 ghost use Rattle.advance.specs.Walk.{placeAt, Walk, codedOn};
 

@@ -1,10 +1,11 @@
 // The stack of running macro bodies, outermost first, lent as two arrays beside the depth.
 pub mod calls;
 
-use macros::cells::MOST_BYTES;
 use macros::cursors::has_left;
 use macros::cursors::read_body;
 use rules::Cursor;
+use rules::MOST_BYTES;
+use rules::MOST_DEPTH;
 use rules::Read;
 ghost use mathlib.Core.Path.{_≡_};
 ghost use mathlib.Core.List.{List};
@@ -14,8 +15,6 @@ ghost use Rattle.rules.specs.Bodies.{bodyAt, depthLeft, bytesLeft, readBody};
 ghost use Rattle.rules.specs.Ranges.{placesFit, bodiesFit};
 ghost use Rattle.macros.specs.Lent.{Sized};
 ghost use Rattle.bodies.specs.Stack.{bodiesOf};
-
-pub const MOST_DEPTH: u8 = 8;
 
 pub fn body_at(cells: &[u8; 8], places: &[u8; 8], index: u8) -> Cursor
     requires { ⌜ index < 8 ⌝ }

@@ -14,7 +14,8 @@ use Rattle.rules.specs.Types.{Control, Ignored, Locks, Shifts, Escapes, Barred,
 use Rattle.rules.specs.Types.{Designated, Names, Unassigned, Element, Final, Opens, Refuses, UsesG2, UsesG3, Closes, NoMeaning}
 use Rattle.rules.specs.Types.{Inner, OpensNext, Bars, EndsBody, StartsAfresh, StoresBoth, Set, Characters, Pdi, Macro}
 use Rattle.rules.specs.Types.{Waiting, Nothing, Shifted, Escape, Designator, Longer, Name, Body, BodyEscape}
-use Rattle.rules.specs.Store.{firstOf, Freeing, NotFreed, Freed, freeBody, Storing, NotStored, Stored, storeByte, storeEscapeAnd, esc}
+use Rattle.rules.specs.Numbers.{esc}
+use Rattle.rules.specs.Store.{firstOf, Freeing, NotFreed, Freed, freeBody, Storing, NotStored, Stored, storeByte, storeEscapeAnd}
 use Rattle.rules.specs.Coding.{Reaction, Refuse, Call, React, setOf, shiftedTo, wait, named, openBody, keep, filling, inBody, innerOf, inBodyEscape, finalOf, escape, designatedBy, designation, control, graphic, classOf, reactTo, react}
 use Rattle.macros.specs.Lent.{IsName}
 use Rattle.coding.specs.View.{codingOf, effectOn, setsAfter, reactionOf}

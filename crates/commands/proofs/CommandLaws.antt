@@ -11,6 +11,7 @@ use lib.ListN.{length, getD}
 use borrow.Author.Tests.{lt-ltb, le-ltb, leb-true}
 use Rattle.rules.specs.Types.{Action, Control·action as Control, Opcode, Data, Command, Ignored, Recorded, Domain, Drawing, Look}
 use Rattle.rules.specs.Types.{Operand, Pen, Point, Dropped, Row, Set, Pdi}
+use Rattle.rules.specs.Numbers.{roomForStep}
 use Rattle.rules.specs.Coding.{controls}
 use Rattle.rules.specs.Drawing.{other, rows, rowOf, roleOf, noOperand, Outcome, NotDrawn, Draw, act}
 use Rattle.rules.specs.Ranges.{domainFits}
@@ -18,7 +19,6 @@ use Rattle.rules.proofs.DrawingRanges.{dropped-same}
 use Rattle.rules.proofs.OpcodeRows.{row-at}
 use Rattle.rules.proofs.Tables.{at}
 use Rattle.rules.proofs.Bools.{false-true, and-left, and-right, pick-yes, pick-no}
-use Rattle.rules.specs.Reading.{roomForStep}
 use Rattle.figures.specs.Carried.{Carried, carry, drawingOf}
 use Rattle.figures.proofs.Carrying.{carry-none}
 use Rattle.runs.specs.declared.Ran.{Ran}

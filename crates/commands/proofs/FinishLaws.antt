@@ -12,7 +12,8 @@ use Rattle.rules.proofs.Role.{the-type as the-role}
 use Rattle.rules.specs.Types.{Command, Drawing, Look, Operand, Point}
 use Rattle.rules.specs.Types.{Role, MoveTo, DrawTo, DrawBy, Middle, ArcEnd, Start, Edge, Lengths, Pel, Foreground, Background}
 use Rattle.rules.specs.Types.{Shade·role as Shade, Dropped, Row}
-use Rattle.rules.specs.Record.{words, bytesOf, flags, origin, recordOf, figure, mark}
+use Rattle.rules.specs.Numbers.{recordSize, origin}
+use Rattle.rules.specs.Record.{words, bytesOf, flags, recordOf, figure, mark}
 use Rattle.rules.specs.Drawing.{rowOf, roleOf, noOperand, Draw, arcTo, closingEdge, finish, newCommand, close, openCommand, act}
 use Rattle.rules.proofs.Bools.{true-false}
 use Rattle.records.specs.declared.Head.{Head}
@@ -105,7 +106,7 @@ module _ (p q : Point) (o : Operand) (c : Command) (l : Look) (m : List ℕ) (at
   abbrev shut : Drawing
   shut = drawingOf (penAt q noOperand) (newCommand 0 origin) l m
 
-  pub closed : (row : Row) (n : Role) → row ≡ rowOf (c .opcode) → n ≡ roleOf (row .pattern) (c .due) → o .count ≡ 0 → at + 40 ≤ length out
+  pub closed : (row : Row) (n : Role) → row ≡ rowOf (c .opcode) → n ≡ roleOf (row .pattern) (c .due) → o .count ≡ 0 → at + recordSize ≤ length out
       → standing (penAt q o) c l m at′ out′ ≡ carry (finish n (row .filled) d) d at out
       → standing (penAt q noOperand) (newCommand 0 origin) l m at′ out′ ≡ carry (close d) d at out
   closed row n e f z h g =

@@ -10,12 +10,12 @@ use lib.ListN.{length, take, drop}
 use Rattle.rules.specs.Types.{Command, Domain, Drawing, Look, Operand, Pen, Point, Record}
 use Rattle.rules.specs.Types.{Role, MoveTo, DrawTo, DrawBy, Middle, ArcEnd, Start, Edge, Lengths, Pel, Foreground, Background}
 use Rattle.rules.specs.Types.{Shade·role as Shade, Dropped, Row, Pdi}
+use Rattle.rules.specs.Numbers.{roomForStep, origin}
 use Rattle.rules.specs.Choice.{pick}
 use Rattle.rules.specs.Operands.{point, displaced, displacedOut}
-use Rattle.rules.specs.Record.{flags, origin, figure}
+use Rattle.rules.specs.Record.{flags, figure}
 use Rattle.rules.specs.Drawing.{rowOf, roleOf, dueAfter, lengthOf, withDue, withOperand, withStart, withVertices, noOperand, Outcome, Draw, apply, drawFigure, arcMiddle, arcTo, edgeBy, nextOperand}
 use Rattle.rules.proofs.Bools.{true-false, false-true, pick-yes}
-use Rattle.rules.specs.Reading.{roomForStep}
 use Rattle.coordinates.specs.declared.whole.Whole.{Whole}
 use Rattle.coordinates.specs.declared.whole.Whole.the-variants.{Cut, Whole as Whole·point}
 use Rattle.coordinates.specs.Data.{allData, wholeOf}

@@ -13,9 +13,10 @@ use Rattle.rules.proofs.Role.{the-type as the-role}
 use Rattle.rules.specs.Types.{Command, Drawing, Look, Operand, Point, Record}
 use Rattle.rules.specs.Types.{Role, MoveTo, DrawTo, DrawBy, Middle, ArcEnd, Start, Edge, Lengths, Pel, Foreground, Background}
 use Rattle.rules.specs.Types.{Shade·role as Shade, Dropped, Row}
+use Rattle.rules.specs.Numbers.{mostVertices, origin}
 use Rattle.rules.specs.Operands.{point, displaced, displacedOut}
-use Rattle.rules.specs.Record.{words, bytesOf, flags, origin, recordOf, figure}
-use Rattle.rules.specs.Drawing.{Outcome, Draw, withStart, withVertices, apply, drawFigure, arcMiddle, arcTo, edgeBy, mostVertices}
+use Rattle.rules.specs.Record.{words, bytesOf, flags, recordOf, figure}
+use Rattle.rules.specs.Drawing.{Outcome, Draw, withStart, withVertices, apply, drawFigure, arcMiddle, arcTo, edgeBy}
 use Rattle.rules.proofs.Bools.{false-true}
 use Rattle.records.specs.declared.Head.{Head}
 use Rattle.records.specs.Bytes.{overwrite, headBytes}

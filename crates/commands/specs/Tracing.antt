@@ -7,10 +7,11 @@ use lib.Dec.{ltb}
 use Rattle.rules.specs.Types.{Action, Control·action as Control, Opcode, Command, Drawing, Look, Operand, Pen, Point}
 use Rattle.rules.specs.Types.{Role, MoveTo, DrawTo, DrawBy, Middle, ArcEnd, Start, Edge, Lengths, Pel, Foreground, Background}
 use Rattle.rules.specs.Types.{Shade·role as Shade, Dropped}
+use Rattle.rules.specs.Numbers.{mostVertices}
 use Rattle.rules.specs.Choice.{pick}
 use Rattle.rules.specs.Operands.{displaced, displacedOut}
 use Rattle.rules.specs.Record.{recordOf}
-use Rattle.rules.specs.Drawing.{Outcome, mostVertices}
+use Rattle.rules.specs.Drawing.{Outcome}
 use Rattle.records.specs.declared.Head.{Head}
 use Rattle.records.specs.Bytes.{headOf, headBytes}
 use Rattle.figures.specs.Carried.{carryOut, drawingOf}

@@ -11,6 +11,7 @@ use records::with_kind;
 use rules::Command;
 use rules::ORIGIN;
 use rules::Point;
+use rules::RECORD_SIZE;
 use rules::Role;
 use rules::Row;
 ghost use mathlib.Core.Path.{_≡_};
@@ -18,11 +19,11 @@ ghost use mathlib.Core.Bool.{false};
 ghost use mathlib.Core.List.{List};
 ghost use Prim.Native.Nat.{ℕ, _+_, _≤_};
 ghost use lib.ListN.{length};
+ghost use Rattle.rules.specs.Numbers.{recordSize, roomForStep};
 ghost use Rattle.rules.specs.declared.Look.{Look};
 ghost use Rattle.rules.specs.declared.Operand.{Operand};
 ghost use Rattle.rules.specs.Record.{bytesOf, mark};
 ghost use Rattle.rules.specs.Drawing.{rowOf, roleOf, noOperand, finish, closingEdge, act};
-ghost use Rattle.rules.specs.Reading.{roomForStep};
 ghost use Rattle.records.specs.Bytes.{overwrite};
 ghost use Rattle.figures.specs.Carried.{carryOut, drawingOf};
 ghost use Rattle.runs.specs.Run.{standing};
@@ -61,7 +62,7 @@ fn finish_polygon(
     out: &mut [u8],
     at: usize,
 ) -> Finished
-    requires { ⌜ at + 40 ≤ length (now out) ⌝ }
+    requires { ⌜ at + recordSize ≤ length (now out) ⌝ }
     ensures { λ r. ⌜ FinishesBy (closingEdge filled) ink pel p command at (now (out .entry)) r (now (out .exit)) ⌝ }
 {
     if command.vertices <= 1 {
@@ -71,7 +72,7 @@ fn finish_polygon(
     let flags = flags(filled, false, true);
     put_figure(ink, 5, flags, p, start, ORIGIN, pel, out, at);
     Finished {
-        at: at + 40,
+        at: at + RECORD_SIZE,
         point: start,
     }
 }
@@ -87,7 +88,7 @@ fn finish(
     out: &mut [u8],
     at: usize,
 ) -> Finished
-    requires { ⌜ (isForeground role ≡ false) × (at + 40 ≤ length (now out)) ⌝ }
+    requires { ⌜ (isForeground role ≡ false) × (at + recordSize ≤ length (now out)) ⌝ }
     ensures { λ r. ⌜ FinishesBy (finish role (row .filled)) ink pel p command at (now (out .entry)) r (now (out .exit)) ⌝ }
 {
     match role {
@@ -95,7 +96,7 @@ fn finish(
             let start = command.start;
             put_arc(row.filled, false, start, command, ink, pel, out, at);
             Finished {
-                at: at + 40,
+                at: at + RECORD_SIZE,
                 point: start,
             }
         }
@@ -105,7 +106,7 @@ fn finish(
 }
 
 fn put_mark(ink: Head, kind: u8, code: u8, p: Point, pel: Point, out: &mut [u8], at: usize)
-    requires { ⌜ at + 40 ≤ length (now out) ⌝ }
+    requires { ⌜ at + recordSize ≤ length (now out) ⌝ }
     ensures { λ _. ⌜ ((l : Look) → Inks ink pel l → now (out .exit) ≡ overwrite at (bytesOf (mark l kind 0 code p)) (now (out .entry))) ⌝ }
 {
     let head = with_code(with_kind(ink, kind, 0), code);
@@ -138,7 +139,7 @@ pub(crate) fn open_next(
     if byte < 32 {
         put_mark(ink, 7, byte, point, pel, out, at);
         return Opened {
-            at: at + 40,
+            at: at + RECORD_SIZE,
             point,
             command: new_command(0, ORIGIN),
             row: next,
@@ -148,7 +149,7 @@ pub(crate) fn open_next(
     if next.kind == 9 {
         put_mark(ink, 9, byte, point, pel, out, at);
         return Opened {
-            at: at + 40,
+            at: at + RECORD_SIZE,
             point,
             command,
             row: next,

@@ -9,6 +9,7 @@ use rules::Command;
 use rules::MOST_VERTICES;
 use rules::ORIGIN;
 use rules::Point;
+use rules::RECORD_SIZE;
 use rules::Role;
 use rules::Row;
 ghost use mathlib.Core.Path.{_≡_};
@@ -16,11 +17,12 @@ ghost use mathlib.Core.Bool.{true, false, _||_};
 ghost use mathlib.Core.List.{List};
 ghost use Prim.Native.Nat.{ℕ, _+_, _<_, _≤_};
 ghost use lib.ListN.{length};
+ghost use Rattle.rules.specs.Numbers.{recordSize, mostVertices};
 ghost use Rattle.rules.specs.declared.Look.{Look};
 ghost use Rattle.rules.specs.declared.Operand.{Operand};
 ghost use Rattle.rules.specs.Operands.{point, displaced, displacedOut};
 ghost use Rattle.rules.specs.Record.{bytesOf, flags, figure};
-ghost use Rattle.rules.specs.Drawing.{withStart, apply, drawFigure, arcTo, edgeBy, mostVertices};
+ghost use Rattle.rules.specs.Drawing.{withStart, apply, drawFigure, arcTo, edgeBy};
 ghost use Rattle.records.specs.Bytes.{overwrite};
 ghost use Rattle.figures.specs.Carried.{carryOut, drawingOf};
 ghost use Rattle.runs.specs.Run.{standing};
@@ -90,7 +92,7 @@ pub(crate) fn put_figure(
     out: &mut [u8],
     at: usize,
 )
-    requires { ⌜ at + 40 ≤ length (now out) ⌝ }
+    requires { ⌜ at + recordSize ≤ length (now out) ⌝ }
     ensures { λ _. ⌜ ((l : Look) → Inks ink pel l
         → now (out .exit) ≡ overwrite at (bytesOf (figure l kind flags p0 p1 p2)) (now (out .entry))) ⌝ }
 {
@@ -110,7 +112,7 @@ fn stroke(
     out: &mut [u8],
     at: usize,
 ) -> Traced
-    requires { ⌜ at + 40 ≤ length (now out) ⌝ }
+    requires { ⌜ at + recordSize ≤ length (now out) ⌝ }
     ensures { λ r. ⌜ TracesBy (drawFigure (row .kind) (row .filled) wrapped q) ink pel p command at (now (out .entry)) r
         (now (out .exit)) × Near command at r ⌝ }
 {
@@ -119,7 +121,7 @@ fn stroke(
     if kind == 1 {
         put_figure(ink, kind, flags, q, ORIGIN, ORIGIN, pel, out, at);
         return Traced {
-            at: at + 40,
+            at: at + RECORD_SIZE,
             point: q,
             command,
         };
@@ -127,7 +129,7 @@ fn stroke(
     if kind == 2 {
         put_figure(ink, kind, flags, p, q, ORIGIN, pel, out, at);
         return Traced {
-            at: at + 40,
+            at: at + RECORD_SIZE,
             point: q,
             command,
         };
@@ -136,7 +138,7 @@ fn stroke(
         put_figure(ink, kind, flags, p, q, ORIGIN, pel, out, at);
         let corner = Point { x: q.x, y: p.y };
         return Traced {
-            at: at + 40,
+            at: at + RECORD_SIZE,
             point: corner,
             command,
         };
@@ -179,7 +181,7 @@ pub(crate) fn put_arc(
     out: &mut [u8],
     at: usize,
 )
-    requires { ⌜ at + 40 ≤ length (now out) ⌝ }
+    requires { ⌜ at + recordSize ≤ length (now out) ⌝ }
     ensures { λ _. ⌜ ((l : Look) → Inks ink pel l
         → now (out .exit)
         ≡ overwrite at
@@ -202,13 +204,13 @@ fn arc_end(
     out: &mut [u8],
     at: usize,
 ) -> Traced
-    requires { ⌜ at + 40 ≤ length (now out) ⌝ }
+    requires { ⌜ at + recordSize ≤ length (now out) ⌝ }
     ensures { λ r. ⌜ ((p : Point) → TracesBy (arcTo filled wrapped q) ink pel p command at (now (out .entry)) r (now (out .exit)))
         × Near command at r ⌝ }
 {
     put_arc(filled, wrapped, q, command, ink, pel, out, at);
     Traced {
-        at: at + 40,
+        at: at + RECORD_SIZE,
         point: q,
         command,
     }
@@ -225,7 +227,7 @@ fn edge(
     out: &mut [u8],
     at: usize,
 ) -> Traced
-    requires { ⌜ (command .vertices < mostVertices) × (at + 40 ≤ length (now out)) ⌝ }
+    requires { ⌜ (command .vertices < mostVertices) × (at + recordSize ≤ length (now out)) ⌝ }
     ensures { λ r. ⌜ ((v : Point) → q ≡ displaced p v → wrapped ≡ displacedOut p v
         → TracesBy (edgeBy filled v) ink pel p command at (now (out .entry)) r (now (out .exit))) × Near command at r ⌝ }
 {
@@ -234,7 +236,7 @@ fn edge(
     let mut longer = command;
     longer.vertices = command.vertices + 1;
     Traced {
-        at: at + 40,
+        at: at + RECORD_SIZE,
         point: q,
         command: longer,
     }
@@ -252,7 +254,7 @@ pub(crate) fn trace(
     out: &mut [u8],
     at: usize,
 ) -> Traced
-    requires { ⌜ (isPoint role (command .vertices) ≡ true) × (at + 40 ≤ length (now out)) ⌝ }
+    requires { ⌜ (isPoint role (command .vertices) ≡ true) × (at + recordSize ≤ length (now out)) ⌝ }
     ensures { λ r. ⌜ ((bs : List ℕ) (l : Look) (o : Operand) (m : List ℕ) → Inks ink pel l → v ≡ point (l .domain .three) bs
         → standing (penAt (r .point) o) (r .command) l m (r .at) (now (out .exit))
         ≡ carryOut (apply role row bs) (drawingOf (penAt p o) command l m) at (now (out .entry))) × Near command at r ⌝ }

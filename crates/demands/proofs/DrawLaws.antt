@@ -10,13 +10,13 @@ use lib.Dec.{ltb, eqb}
 use borrow.Author.Tests.{eq-eqb}
 use borrow.Rule.Slice.PartMut.{putMid}
 use Rattle.rules.specs.Types.{StoreSize, Answer, Done, Full, Refused, Verdict, Passes, Fails}
-use Rattle.rules.specs.Store.{storeSize}
+use Rattle.rules.specs.Numbers.{storeSize, roomForStep}
 use Rattle.rules.specs.Bodies.{bytesLeft}
 use Rattle.rules.specs.Coding.{unfinished}
 use Rattle.rules.specs.Drawing.{isOpen}
 use Rattle.rules.specs.Ranges.{fits}
 use Rattle.rules.specs.Step.{State, stateLent}
-use Rattle.rules.specs.Reading.{Reading, Always, roomForStep, verdict, tests, undivided}
+use Rattle.rules.specs.Reading.{Reading, Always, verdict, tests, undivided}
 use Rattle.rules.specs.Calls.{Opening, freshState, openAs, openPage, Handed, handed, ending, endChecks, end}
 use Rattle.rules.specs.Expansion.{expansion, readPage, endPage, allRecords, SameState}
 use Rattle.rules.proofs.Readings.{full-done, refused-done, refused-full, reads-failed}

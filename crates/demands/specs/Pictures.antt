@@ -4,7 +4,7 @@ use mathlib.Core.Path.{_≡_}
 use mathlib.Core.List.{List, _++_}
 use lib.ListN.{length, take, drop}
 use Rattle.rules.specs.Types.{Refusal, Answer, Done, Full, Refused}
-use Rattle.rules.specs.Store.{storeSize}
+use Rattle.rules.specs.Numbers.{storeSize}
 use Rattle.rules.specs.Calls.{openPage, Handed, end}
 use Rattle.rules.specs.Expansion.{expansion, endPage, Accepted, allRecords, SameState}
 use Rattle.demands.specs.Cuts.{fedCuts}

@@ -14,7 +14,7 @@ use Rattle.rules.proofs.Role.{the-type as the-role}
 use Rattle.rules.specs.Types.{Drawing, Row}
 use Rattle.rules.specs.Types.{Role, MoveTo, DrawTo, DrawBy, Middle, ArcEnd, Start, Edge, Lengths, Pel, Foreground, Background}
 use Rattle.rules.specs.Types.{Shade·role as Shade, Dropped}
-use Rattle.rules.specs.Record.{origin}
+use Rattle.rules.specs.Numbers.{recordSize, origin}
 use Rattle.rules.specs.Drawing.{rowOf, withCommand, withOperand, noOperand, Outcome, NotDrawn, Draw, andThen, roleDue, applyBegun, complete, finish, newCommand, close}
 use Rattle.rules.proofs.Bools.{pick-yes, pick-no, pick-all}
 use Rattle.rules.proofs.RecordCount.{AtMost, begun-most, close-most}
@@ -40,7 +40,7 @@ module _ (r : Row) (d : Drawing) (at : ℕ) (l : List ℕ) where
   pub complete-place : (x : Carried) → x ≡ carry (complete r d) d at l → x .at ≤ at + 40
   complete-place x e = omega (arith, carry-most 1 (complete r d) d at l complete-most, ap (λ (y : Carried). y .at) e)
 
-  complete-length : (x : Carried) → at + 40 ≤ length l → x ≡ carry (complete r d) d at l → length (x .output) ≡ length l
+  complete-length : (x : Carried) → at + recordSize ≤ length l → x ≡ carry (complete r d) d at l → length (x .output) ≡ length l
   complete-length x h e = ap (λ (y : Carried). length (y .output)) e ∙ carry-length 1 (complete r d) d at l complete-most h
 
 -- Closing writes at most two
@@ -91,7 +91,7 @@ module _ (r : Row) (d : Drawing) (at : ℕ) (l : List ℕ) (x : Carried) (s : r 
   close-refused h = rw closing at (then-refused (complete r d) (finished r) d at l x e h)
 
   -- Finished with the answer y
-  pub close-drawn : (n : Role) (y : Carried) → at + 40 ≤ length l → x .refused ≡ false → n ≡ roleDue r (x .drawing)
+  pub close-drawn : (n : Role) (y : Carried) → at + recordSize ≤ length l → x .refused ≡ false → n ≡ roleDue r (x .drawing)
       → y ≡ carry (finish n (r .filled) (x .drawing)) (x .drawing) (x .at) (x .output)
       → carry (Draw (shut (y .drawing)) []) (y .drawing) (y .at) (y .output) ≡ carry (close d) d at l
   close-drawn n y b h i f =

@@ -9,9 +9,10 @@ use Rattle.rules.specs.Types.{Action, Idle, Close, Control·action as Control, 
 use Rattle.rules.specs.Types.{Mode, Direct, Mapped, TwoColour, Point, Drawing, Row}
 use Rattle.rules.specs.Types.{Role, MoveTo, DrawTo, DrawBy, Middle, ArcEnd, Start, Edge, Lengths, Pel, Foreground, Background}
 use Rattle.rules.specs.Types.{Shade·role as Shade, Dropped, TooManyVertices}
+use Rattle.rules.specs.Numbers.{mostVertices}
 use Rattle.rules.specs.Operands.{begun}
 use Rattle.rules.specs.Drawing.{rowOf, lengthOf, Outcome, NotDrawn, Draw, prepend, andThen}
-use Rattle.rules.specs.Drawing.{drawFigure, arcMiddle, arcTo, mostVertices, edgeBy, shadeMap, shadeTo, apply, roleDue, applyBegun}
+use Rattle.rules.specs.Drawing.{drawFigure, arcMiddle, arcTo, edgeBy, shadeMap, shadeTo, apply, roleDue, applyBegun}
 use Rattle.rules.specs.Drawing.{withByte, takeByte, dataByte, complete, closingEdge, finish, close, openCommand, act}
 use Rattle.rules.proofs.Bools.{pick-all}
 use Rattle.rules.proofs.DrawingRanges.{finish-all}

@@ -19,6 +19,7 @@ use rules::Row;
 ghost use mathlib.Core.Path.{_≡_};
 ghost use Prim.Native.Nat.{_+_, _≤_};
 ghost use lib.ListN.{length};
+ghost use Rattle.rules.specs.Numbers.{recordSize};
 ghost use Rattle.rules.specs.Drawing.{rowOf, withMode, complete, finish, newCommand, close};
 ghost use Rattle.figures.specs.Carried.{carryOut, drawingOf, carriedOf, DrawsBy};
 
@@ -32,7 +33,7 @@ fn complete(
     out: &mut [u8],
     at: usize,
 ) -> Drawn
-    requires { ⌜ (pen .operand .count ≤ 8) × (look .colour .foreground ≤ 15) × (at + 40 ≤ length (now out)) ⌝ }
+    requires { ⌜ (pen .operand .count ≤ 8) × (look .colour .foreground ≤ 15) × (at + recordSize ≤ length (now out)) ⌝ }
     ensures { λ r. ⌜ carriedOf r (now (map .exit)) (now (out .exit))
         ≡ carryOut (complete row) (drawingOf pen command look (now (map .entry))) at (now (out .entry)) ⌝ }
 {
@@ -69,7 +70,7 @@ fn finish(
     out: &mut [u8],
     at: usize,
 ) -> Drawn
-    requires { ⌜ at + 40 ≤ length (now out) ⌝ }
+    requires { ⌜ at + recordSize ≤ length (now out) ⌝ }
     ensures { λ r. ⌜ DrawsBy (finish role filled) pen command look at (now (out .entry)) r (now (out .exit)) ⌝ }
 {
     match role {

@@ -22,15 +22,15 @@ ghost use mathlib.Core.Bool.{true};
 ghost use mathlib.Core.List.{[], _∷_};
 ghost use Prim.Native.Nat.{_+_, _≤_};
 ghost use lib.ListN.{length};
+ghost use Rattle.rules.specs.Numbers.{recordSize, roomForStep};
 ghost use Rattle.rules.specs.Record.{mark};
 ghost use Rattle.rules.specs.Drawing.{rowOf, Draw, andThen, close, openCommand, act};
 ghost use Rattle.rules.specs.Ranges.{drawingFits};
-ghost use Rattle.rules.specs.Reading.{roomForStep};
 ghost use Rattle.figures.specs.Carried.{carryOut, drawingOf, carriedOf, DrawsBy};
 
 // Opens a command where none is open: whatever the closed one left is replaced.
 fn open_command(opcode: u8, pen: Pen, look: Look, out: &mut [u8], at: usize) -> Drawn
-    requires { ⌜ at + 40 ≤ length (now out) ⌝ }
+    requires { ⌜ at + recordSize ≤ length (now out) ⌝ }
     ensures { λ r. ⌜ ((c : Command) → DrawsBy (openCommand opcode) pen c look at (now (out .entry)) r (now (out .exit))) ⌝ }
 {
     let fresh = new_command(opcode, pen.point);

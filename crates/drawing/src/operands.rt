@@ -16,6 +16,7 @@ ghost use mathlib.Core.Path.{_≡_};
 ghost use mathlib.Core.List.{[]};
 ghost use Prim.Native.Nat.{suc, _+_, _<_, _≤_};
 ghost use lib.ListN.{length, set};
+ghost use Rattle.rules.specs.Numbers.{recordSize};
 ghost use Rattle.rules.specs.Drawing.{roleOf, dueAfter, withDue, noOperand, Draw, nextOperand, applyBegun, dataByte};
 ghost use Rattle.figures.specs.Carried.{carryOut, drawingOf, carriedOf, ChangesBy};
 
@@ -75,7 +76,7 @@ pub(crate) fn apply_begun(
     out: &mut [u8],
     at: usize,
 ) -> Drawn
-    requires { ⌜ (pen .operand .count ≤ 8) × (look .colour .foreground ≤ 15) × (at + 40 ≤ length (now out)) ⌝ }
+    requires { ⌜ (pen .operand .count ≤ 8) × (look .colour .foreground ≤ 15) × (at + recordSize ≤ length (now out)) ⌝ }
     ensures { λ r. ⌜ carriedOf r (now (map .exit)) (now (out .exit))
         ≡ carryOut (applyBegun row) (drawingOf pen command look (now (map .entry))) at (now (out .entry)) ⌝ }
 {
@@ -119,7 +120,7 @@ pub(crate) fn data_byte(
     out: &mut [u8],
     at: usize,
 ) -> Drawn
-    requires { ⌜ (pen .operand .count < 8) × (look .colour .foreground ≤ 15) × (at + 40 ≤ length (now out)) ⌝ }
+    requires { ⌜ (pen .operand .count < 8) × (look .colour .foreground ≤ 15) × (at + recordSize ≤ length (now out)) ⌝ }
     ensures { λ r. ⌜ carriedOf r (now (map .exit)) (now (out .exit))
         ≡ carryOut (dataByte row byte) (drawingOf pen command look (now (map .entry))) at (now (out .entry)) ⌝ }
 {

@@ -5,11 +5,13 @@ use rules::Command;
 use rules::Look;
 use rules::Pen;
 use rules::Point;
+use rules::RECORD_SIZE;
 use rules::Record;
 ghost use mathlib.Core.Path.{_≡_};
 ghost use mathlib.Core.List.{[], _∷_};
 ghost use Prim.Native.Nat.{_+_, _≤_};
 ghost use lib.ListN.{length};
+ghost use Rattle.rules.specs.Numbers.{recordSize};
 ghost use Rattle.rules.specs.Drawing.{Draw};
 ghost use Rattle.figures.specs.Carried.{movedTo, DrawsBy, ChangesBy};
 
@@ -41,13 +43,13 @@ pub fn one_record(
     out: &mut [u8],
     at: usize,
 ) -> Drawn
-    requires { ⌜ at + 40 ≤ length (now out) ⌝ }
+    requires { ⌜ at + recordSize ≤ length (now out) ⌝ }
     ensures { λ r. ⌜ DrawsBy (λ d. Draw d (written ∷ [])) pen command look at (now (out .entry)) r (now (out .exit)) ⌝ }
 {
     put_record(out, at, written);
     Drawn {
         refused: false,
-        at: at + 40,
+        at: at + RECORD_SIZE,
         pen,
         command,
         look,

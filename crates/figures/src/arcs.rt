@@ -14,6 +14,7 @@ ghost use mathlib.Core.Path.{_≡_};
 ghost use mathlib.Core.Bool.{_||_};
 ghost use Prim.Native.Nat.{_+_, _≤_};
 ghost use lib.ListN.{length};
+ghost use Rattle.rules.specs.Numbers.{recordSize};
 ghost use Rattle.rules.specs.Operands.{displaced, displacedOut};
 ghost use Rattle.rules.specs.Drawing.{arcMiddle, arcTo};
 ghost use Rattle.figures.specs.Carried.{DrawsBy, ChangesBy};
@@ -47,7 +48,7 @@ pub fn arc_to(
     out: &mut [u8],
     at: usize,
 ) -> Drawn
-    requires { ⌜ at + 40 ≤ length (now out) ⌝ }
+    requires { ⌜ at + recordSize ≤ length (now out) ⌝ }
     ensures { λ r. ⌜ DrawsBy (arcTo filled wrapped q) pen command look at (now (out .entry)) r (now (out .exit)) ⌝ }
 {
     let flags = flags(filled, either(command.wrapped, wrapped), false);
@@ -66,7 +67,7 @@ pub(crate) fn arc_by(
     out: &mut [u8],
     at: usize,
 ) -> Drawn
-    requires { ⌜ at + 40 ≤ length (now out) ⌝ }
+    requires { ⌜ at + recordSize ≤ length (now out) ⌝ }
     ensures { λ r. ⌜ DrawsBy (arcTo filled (displacedOut (pen .point) v) (displaced (pen .point) v)) pen command look at
         (now (out .entry)) r (now (out .exit)) ⌝ }
 {

@@ -17,6 +17,7 @@ ghost use mathlib.Core.Path.{_≡_};
 ghost use mathlib.Core.List.{[]};
 ghost use Prim.Native.Nat.{_+_, _≤_};
 ghost use lib.ListN.{length};
+ghost use Rattle.rules.specs.Numbers.{recordSize};
 ghost use Rattle.rules.specs.Operands.{greenBits, redBits, blueBits, bitsOf, fromTop, address, begun};
 ghost use Rattle.rules.specs.Drawing.{Draw, withColour, withForeground, withBackground, mapAt, shadeMap, shadeTo};
 ghost use Rattle.figures.specs.Carried.{carryOut, drawingOf, carriedOf, ChangesBy};
@@ -92,7 +93,7 @@ fn shade_map(
     out: &mut [u8],
     at: usize,
 ) -> Drawn
-    requires { ⌜ (look .colour .foreground ≤ 15) × (at + 40 ≤ length (now out)) ⌝ }
+    requires { ⌜ (look .colour .foreground ≤ 15) × (at + recordSize ≤ length (now out)) ⌝ }
     ensures { λ r. ⌜ carriedOf r (now (map .exit)) (now (out .exit))
         ≡ carryOut (shadeMap (hue .green) (hue .red) (hue .blue)) (drawingOf pen command look (now (map .entry))) at
         (now (out .entry)) ⌝ }
@@ -122,7 +123,7 @@ fn shade_to(
     out: &mut [u8],
     at: usize,
 ) -> Drawn
-    requires { ⌜ (look .colour .foreground ≤ 15) × (at + 40 ≤ length (now out)) ⌝ }
+    requires { ⌜ (look .colour .foreground ≤ 15) × (at + recordSize ≤ length (now out)) ⌝ }
     ensures { λ r. ⌜ carriedOf r (now (map .exit)) (now (out .exit))
         ≡ carryOut (shadeTo mode (hue .green) (hue .red) (hue .blue)) (drawingOf pen command look (now (map .entry))) at
         (now (out .entry)) ⌝ }
@@ -142,7 +143,7 @@ pub(crate) fn set_shade(
     out: &mut [u8],
     at: usize,
 ) -> Drawn
-    requires { ⌜ (look .colour .foreground ≤ 15) × (at + 40 ≤ length (now out)) ⌝ }
+    requires { ⌜ (look .colour .foreground ≤ 15) × (at + recordSize ≤ length (now out)) ⌝ }
     ensures { λ r. ⌜ carriedOf r (now (map .exit)) (now (out .exit))
         ≡ carryOut
         (shadeTo (look .colour .mode) (fromTop 8 (bitsOf greenBits (begun (pen .operand))))

@@ -28,6 +28,7 @@ use rules::Row;
 ghost use mathlib.Core.Path.{_≡_};
 ghost use Prim.Native.Nat.{_+_, _≤_};
 ghost use lib.ListN.{length};
+ghost use Rattle.rules.specs.Numbers.{recordSize};
 ghost use Rattle.rules.specs.Operands.{begun};
 ghost use Rattle.rules.specs.Drawing.{apply};
 ghost use Rattle.figures.specs.Carried.{carryOut, drawingOf, carriedOf};
@@ -52,7 +53,7 @@ pub fn apply(
     out: &mut [u8],
     at: usize,
 ) -> Drawn
-    requires { ⌜ (pen .operand .count ≤ 8) × (look .colour .foreground ≤ 15) × (at + 40 ≤ length (now out)) ⌝ }
+    requires { ⌜ (pen .operand .count ≤ 8) × (look .colour .foreground ≤ 15) × (at + recordSize ≤ length (now out)) ⌝ }
     ensures { λ r. ⌜ carriedOf r (now (map .exit)) (now (out .exit))
         ≡ carryOut (apply role row (begun (pen .operand))) (drawingOf pen command look (now (map .entry))) at
         (now (out .entry)) ⌝ }

@@ -16,6 +16,7 @@ ghost use mathlib.Core.Bool.{false};
 ghost use mathlib.Core.List.{[]};
 ghost use Prim.Native.Nat.{_+_, _≤_};
 ghost use lib.ListN.{length};
+ghost use Rattle.rules.specs.Numbers.{recordSize};
 ghost use Rattle.rules.specs.Operands.{displaced, displacedOut};
 ghost use Rattle.rules.specs.Drawing.{Draw, withPoint, drawFigure};
 ghost use Rattle.figures.specs.Carried.{DrawsBy, ChangesBy};
@@ -38,7 +39,7 @@ fn draw_figure(
     out: &mut [u8],
     at: usize,
 ) -> Drawn
-    requires { ⌜ at + 40 ≤ length (now out) ⌝ }
+    requires { ⌜ at + recordSize ≤ length (now out) ⌝ }
     ensures { λ r. ⌜ DrawsBy (drawFigure kind filled wrapped q) pen command look at (now (out .entry)) r (now (out .exit)) ⌝ }
 {
     let p = pen.point;
@@ -68,7 +69,7 @@ pub(crate) fn draw_to(
     out: &mut [u8],
     at: usize,
 ) -> Drawn
-    requires { ⌜ at + 40 ≤ length (now out) ⌝ }
+    requires { ⌜ at + recordSize ≤ length (now out) ⌝ }
     ensures { λ r. ⌜ DrawsBy (drawFigure (row .kind) (row .filled) false q) pen command look at (now (out .entry)) r (now (out .exit)) ⌝ }
 {
     draw_figure(row.kind, row.filled, false, q, pen, command, look, out, at)
@@ -83,7 +84,7 @@ pub(crate) fn draw_by(
     out: &mut [u8],
     at: usize,
 ) -> Drawn
-    requires { ⌜ at + 40 ≤ length (now out) ⌝ }
+    requires { ⌜ at + recordSize ≤ length (now out) ⌝ }
     ensures { λ r. ⌜ DrawsBy (drawFigure (row .kind) (row .filled) (displacedOut (pen .point) v) (displaced (pen .point) v)) pen
         command look at (now (out .entry)) r (now (out .exit)) ⌝ }
 {

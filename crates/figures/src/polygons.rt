@@ -15,6 +15,7 @@ use rules::Point;
 ghost use mathlib.Core.List.{[]};
 ghost use Prim.Native.Nat.{_+_, _≤_};
 ghost use lib.ListN.{length};
+ghost use Rattle.rules.specs.Numbers.{recordSize};
 ghost use Rattle.rules.specs.Drawing.{Draw, withPoint, withCommand, withStart, edgeBy, closingEdge};
 ghost use Rattle.figures.specs.Carried.{DrawsBy, ChangesBy};
 
@@ -37,7 +38,7 @@ pub(crate) fn edge_by(
     out: &mut [u8],
     at: usize,
 ) -> Drawn
-    requires { ⌜ at + 40 ≤ length (now out) ⌝ }
+    requires { ⌜ at + recordSize ≤ length (now out) ⌝ }
     ensures { λ r. ⌜ DrawsBy (edgeBy filled v) pen command look at (now (out .entry)) r (now (out .exit)) ⌝ }
 {
     if command.vertices >= MOST_VERTICES {
@@ -68,7 +69,7 @@ pub fn closing_edge(
     out: &mut [u8],
     at: usize,
 ) -> Drawn
-    requires { ⌜ at + 40 ≤ length (now out) ⌝ }
+    requires { ⌜ at + recordSize ≤ length (now out) ⌝ }
     ensures { λ r. ⌜ DrawsBy (closingEdge filled) pen command look at (now (out .entry)) r (now (out .exit)) ⌝ }
 {
     if command.vertices <= 1 {

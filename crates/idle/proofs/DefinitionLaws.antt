@@ -6,8 +6,8 @@ use Prim.Native.Nat.{ℕ, _+_}
 use native.Mathlib.Omega.{arith}
 use lib.ListN.{getD}
 use Rattle.rules.specs.Types.{Idle as Idle·action, Coding, Definition, Sets, Waiting, Nothing, Escape, Name, Body, BodyEscape}
+use Rattle.rules.specs.Numbers.{esc}
 use Rattle.rules.specs.Coding.{React, inBody, innerOf, inBodyEscape, finalOf, escape, controls, control, classOf, reactTo, react}
-use Rattle.rules.specs.Store.{esc}
 use Rattle.macros.specs.Each.{none}
 use Rattle.macros.proofs.EachLaws.{each-on}
 use Rattle.idle.specs.Idle.{coded, Idle}

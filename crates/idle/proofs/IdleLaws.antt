@@ -15,9 +15,10 @@ use Rattle.rules.proofs.Bools.{true-false, false-true}
 use Rattle.rules.proofs.CodingRanges.{ReactionFits, react-fits}
 use Rattle.rules.specs.Types.{Action, Idle as Idle·action, Close, Control·action as Control, Character, Opcode, Data, Coding}
 use Rattle.rules.specs.Types.{Sets, Waiting, Body}
+use Rattle.rules.specs.Numbers.{esc}
 use Rattle.rules.specs.Coding.{React, keep, inBody, reactTo, react}
 use Rattle.rules.specs.Ranges.{waitingFits}
-use Rattle.rules.specs.Store.{Filling, esc}
+use Rattle.rules.specs.Store.{Filling}
 use Rattle.macros.specs.Each.{none, more}
 use Rattle.macros.specs.Runs.{StoresByte, Stores}
 use Rattle.macros.proofs.EachLaws.{each-as}

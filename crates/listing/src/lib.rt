@@ -1,12 +1,11 @@
 // Records as lines of text: the fields in order as decimal numbers, with a blank between them.
 // What puts text at a place answers the place after it.
+use rules::RECORD_SIZE;
 ghost use mathlib.Core.Path.{_≡_};
 ghost use Prim.Native.Nat.{_+_, _*_, _/_, _≤_, _<_, min};
 ghost use lib.ListN.{length};
 ghost use Rattle.io.specs.Counts.{Counts};
 ghost use Rattle.listing.specs.Text.{decimal, signedDecimal, wordAt, fieldOf, separator, line, linesTo, closing, Put};
-
-const RECORD_SIZE: usize = 40;
 
 const FIELDS: usize = 16;
 

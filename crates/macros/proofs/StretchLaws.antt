@@ -8,7 +8,8 @@ use mathlib.Core.List.{List}
 use lib.ListN.{length}
 use borrow.Author.Tests.{ne-eqb, lt-ltb, le-leb}
 use Rattle.rules.specs.Types.{Cursor}
-use Rattle.rules.specs.Store.{storeSize, countOf, bodyByte, goodCount, mostBytes}
+use Rattle.rules.specs.Numbers.{storeSize, mostBytes}
+use Rattle.rules.specs.Store.{countOf, bodyByte, goodCount}
 use Rattle.rules.specs.Bodies.{hasLeft, readCell, readBody}
 use Rattle.macros.specs.Stretch.{onBy, Gives}
 use Rattle.macros.proofs.CellLaws.{good-most}

@@ -3,7 +3,7 @@ use Prim.Native.Nat.{ℕ, _≤_}
 use mathlib.Core.List.{List}
 use mathlib.Core.Path.{_≡_}
 use lib.ListN.{length}
-use Rattle.rules.specs.Store.{storeSize}
+use Rattle.rules.specs.Numbers.{storeSize}
 
 -- "a store of exactly 8,192 bytes"
 abbrev pub Sized : List ℕ → Type 0

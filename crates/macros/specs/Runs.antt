@@ -3,7 +3,8 @@ use Prim.Native.Nat.{ℕ, zero, suc, _+_, _≤_}
 use mathlib.Core.List.{List}
 use mathlib.Core.Path.{_≡_}
 use lib.ListN.{getD}
-use Rattle.rules.specs.Store.{Filling, Stored, setBodyByte, storeByte, esc}
+use Rattle.rules.specs.Numbers.{esc}
+use Rattle.rules.specs.Store.{Filling, Stored, setBodyByte, storeByte}
 use Rattle.macros.specs.Each.{Each}
 
 -- A byte that a definition stores as it is: neither ESC nor over 127

@@ -1,16 +1,16 @@
 // One cell of the store. Only this file knows where the parts of a cell lie.
 use rules::ESC;
+use rules::MOST_BYTES;
 ghost use mathlib.Core.Path.{_≡_};
 ghost use Prim.Native.Nat.{_+_, _*_, _-_, _<_, _≤_};
 ghost use lib.ListN.{length};
-ghost use Rattle.rules.specs.Store.{nextOf, setNext, countOf, setCount, mostBytes, goodCount, bodyByte, setBodyByte};
+ghost use Rattle.rules.specs.Numbers.{mostBytes};
+ghost use Rattle.rules.specs.Store.{nextOf, setNext, countOf, setCount, goodCount, bodyByte, setBodyByte};
 ghost use Rattle.macros.specs.Lent.{Sized};
 ghost use Rattle.macros.specs.Runs.{Laid};
 
 // The bytes of a cell: the next cell, the count, and the body bytes.
 const CELL_SIZE: usize = 32;
-
-pub const MOST_BYTES: u8 = 30;
 
 // The next cell, 0 at the end of a chain. Of cell 0: the front of the free chain.
 pub fn next_of(store: &[u8], cell: u8) -> u8

@@ -9,7 +9,7 @@ use rules::Read;
 ghost use mathlib.Core.Path.{_≡_};
 ghost use Prim.Native.Nat.{ℕ, _+_, _≤_, _<_};
 ghost use lib.ListN.{length};
-ghost use Rattle.rules.specs.Store.{mostBytes};
+ghost use Rattle.rules.specs.Numbers.{mostBytes};
 ghost use Rattle.rules.specs.Bodies.{hasLeft, readCell, readBody};
 ghost use Rattle.macros.specs.Lent.{Sized};
 ghost use Rattle.macros.specs.Stretch.{Gives};

@@ -2,7 +2,8 @@
 use crate::cells::set_next;
 ghost use mathlib.Core.Path.{_≡_};
 ghost use lib.ListN.{length, replicate};
-ghost use Rattle.rules.specs.Store.{storeSize, freshStore};
+ghost use Rattle.rules.specs.Numbers.{storeSize};
+ghost use Rattle.rules.specs.Store.{freshStore};
 ghost use Rattle.macros.specs.Lent.{Sized};
 
 fn clear(store: &mut [u8])

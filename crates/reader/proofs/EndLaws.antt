@@ -9,13 +9,14 @@ use lib.Dec.{ltb, leb}
 use borrow.Author.Tests.{ne-eqb, lt-ltb, le-ltb, leb-true}
 use Rattle.rules.specs.Types.{Close, Refusal, TooManyVertices, EndInside, BodyBytesLeft, Session, Verdict, Passes, Fails}
 use Rattle.rules.specs.Types.{Ended, Stopped, Done, Full, Refused}
+use Rattle.rules.specs.Numbers.{mostDepth, roomForStep}
 use Rattle.rules.specs.Record.{bytesOfAll}
-use Rattle.rules.specs.Bodies.{bytesLeft, mostDepth}
+use Rattle.rules.specs.Bodies.{bytesLeft}
 use Rattle.rules.specs.Coding.{unfinished}
 use Rattle.rules.specs.Drawing.{Outcome, NotDrawn, Draw, act, isOpen}
 use Rattle.rules.specs.Step.{State, stateLent}
 use Rattle.rules.specs.Ranges.{placesFit, bodiesFit}
-use Rattle.rules.specs.Reading.{Reading, roomForStep, rests, halts, tests}
+use Rattle.rules.specs.Reading.{Reading, rests, halts, tests}
 use Rattle.rules.specs.Calls.{handed, ended, endChecks, ending, end}
 use Rattle.rules.proofs.Bools.{true-false, false-true, and-left}
 use Rattle.rules.proofs.RecordCount.{closed, closed-close}

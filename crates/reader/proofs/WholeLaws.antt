@@ -6,8 +6,9 @@ use native.Mathlib.Omega.{arith}
 use lib.ListN.{length, drop, length-drop}
 use lib.Seq.{drop-drop}
 use Rattle.rules.specs.Types.{Answer, Done, Full, Refused}
+use Rattle.rules.specs.Numbers.{roomForStep}
 use Rattle.rules.specs.Step.{State, stateLent}
-use Rattle.rules.specs.Reading.{Reading, roomForStep, undivided, stepsLeft}
+use Rattle.rules.specs.Reading.{Reading, undivided, stepsLeft}
 use Rattle.rules.specs.Calls.{Handed, feed, unread, Lent, feeds}
 use Rattle.rules.proofs.CallLaws.{feed-kept}
 use Rattle.rules.proofs.Cutting.{cutting}

@@ -8,9 +8,10 @@ use mathlib.Core.List.{List}
 use lib.ListN.{length, drop}
 use Rattle.rules.specs.Types.{Action, Answer, Done, Full, Refused, Command, Drawing, Look, Pen, Point, TooManyVertices, Session}
 use Rattle.rules.specs.Types.{Status}
+use Rattle.rules.specs.Numbers.{roomForStep}
 use Rattle.rules.specs.Step.{State, stateLent}
 use Rattle.rules.specs.Drawing.{noOperand, act}
-use Rattle.rules.specs.Reading.{Room, roomForStep, reading}
+use Rattle.rules.specs.Reading.{Room, reading}
 use Rattle.rules.specs.Calls.{handed}
 use Rattle.rules.proofs.Steps.{Valid}
 use Rattle.figures.specs.declared.Drawn.{Drawn}

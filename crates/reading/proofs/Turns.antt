@@ -8,9 +8,10 @@ use lib.ListN.{length, drop}
 use lib.Dec.{ltb}
 use borrow.Author.Tests.{ltb-false}
 use Rattle.rules.specs.Types.{Record}
+use Rattle.rules.specs.Numbers.{roomForStep}
 use Rattle.rules.specs.Record.{bytesOfAll}
 use Rattle.rules.specs.Step.{State, removeSpent, Source, FromBody, FromPiece, Sought, NothingLeft, Spoilt, Found, seek, Move, Stops, Goes, interpret}
-use Rattle.rules.specs.Reading.{Room, roomForStep, rests, consumedBy, stepThen, reading}
+use Rattle.rules.specs.Reading.{Room, rests, consumedBy, stepThen, reading}
 use Rattle.rules.proofs.RecordCount.{records-length}
 use Rattle.rules.proofs.Steps.{Valid, Later, later-then, remove-later, step-later, step-most, seek-rest}
 use Rattle.rules.proofs.Readings.{budget, spoilt, refused, reads-done, reads-full, reads-halt, reads-step}

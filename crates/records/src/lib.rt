@@ -3,6 +3,7 @@ ghost use mathlib.Core.Path.{_≡_};
 ghost use mathlib.Core.List.{[], _∷_, _++_};
 ghost use Prim.Native.Nat.{_+_, _≤_};
 ghost use lib.ListN.{length, set};
+ghost use Rattle.rules.specs.Numbers.{recordSize};
 ghost use Rattle.rules.specs.Record.{word, words, bytesOf, flag, flags, modeNumber, setNumber, recordOf, mark, figure};
 ghost use Rattle.records.specs.Bytes.{overwrite, headOf, headBytes};
 ghost use Rattle.records.specs.Fields.{inkOf};
@@ -65,7 +66,7 @@ pub fn with_kind(head: Head, kind: u8, flags: u8) -> Head
 }
 
 pub fn put_words(out: &mut [u8], at: usize, head: Head, p0: Point, p1: Point, p2: Point, pel: Point)
-    requires { ⌜ at + 40 ≤ length (now out) ⌝ }
+    requires { ⌜ at + recordSize ≤ length (now out) ⌝ }
     ensures { λ _. ⌜ now (out .exit) ≡ overwrite at (headBytes head ++ words p0 ++ words p1 ++ words p2 ++ words pel) (now (out .entry)) ⌝ }
 {
     put_word(out, at, head.first);
@@ -77,7 +78,7 @@ pub fn put_words(out: &mut [u8], at: usize, head: Head, p0: Point, p1: Point, p2
 }
 
 pub fn put_record(out: &mut [u8], at: usize, r: Record)
-    requires { ⌜ at + 40 ≤ length (now out) ⌝ }
+    requires { ⌜ at + recordSize ≤ length (now out) ⌝ }
     ensures { λ _. ⌜ now (out .exit) ≡ overwrite at (bytesOf r) (now (out .entry)) ⌝ }
 {
     let first = join_bytes(r.kind, r.flags, r.mode, r.colour0);

@@ -8,8 +8,9 @@ use lib.ListN.{length, drop}
 use lib.Seq.{drop-append-le, drop-drop}
 use borrow.Author.Tests.{ltb-true}
 use Rattle.rules.specs.Types.{Record, Refusal, Answer, Done, Full, Refused, Verdict, Passes, Fails}
+use Rattle.rules.specs.Numbers.{roomForStep}
 use Rattle.rules.specs.Step.{State, removeSpent, Source, NothingLeft, Found, seek, Goes, interpret}
-use Rattle.rules.specs.Reading.{Reading, Limit, Room, Always, roomForStep, reading, tests, stepsLeft, readTo, undivided}
+use Rattle.rules.specs.Reading.{Reading, Limit, Room, Always, reading, tests, stepsLeft, readTo, undivided}
 use Rattle.rules.specs.Calls.{feed, unread, handed, Lent, returned, join, feeds, lentBytes}
 use Rattle.rules.proofs.Bools.{false-true}
 use Rattle.rules.proofs.Steps.{seek-rest, Valid, tests-valid, Later, later-tests, later-then, remove-later, step-later}

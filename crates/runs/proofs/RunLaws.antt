@@ -10,10 +10,10 @@ use lib.ListN.{length, getD, set, take, drop, length-set, length-drop}
 use lib.Seq.{take-suc, take-suc-set, getD-drop, getD-take, length-take-le}
 use borrow.Author.Tests.{lt-ltb, le-ltb, ne-eqb}
 use Rattle.rules.specs.Types.{Data, Drawing, Operand, Record, Row, Pdi}
+use Rattle.rules.specs.Numbers.{roomForStep}
 use Rattle.rules.specs.Operands.{begun}
 use Rattle.rules.specs.Drawing.{rowOf, lengthOf, withOperand, Outcome, Draw, andThen, apply, nextOperand, roleDue, applyBegun, takeByte, dataByte, act}
 use Rattle.rules.proofs.Bools.{pick-yes, pick-no}
-use Rattle.rules.specs.Reading.{roomForStep}
 use Rattle.coordinates.specs.Data.{allData}
 use Rattle.coordinates.proofs.WholeLaws.{data-range, all-at}
 use Rattle.figures.specs.Carried.{Carried, carry}

@@ -8,10 +8,10 @@ use mathlib.Core.List.{List, [], _∷_, _++_}
 use lib.ListN.{length, take, drop}
 use lib.Dec.{eqb}
 use Rattle.rules.specs.Types.{Command, First, Drawing, Look, Operand, A, Pen, Point, Record, Row, Pdi}
+use Rattle.rules.specs.Numbers.{roomForStep, origin}
 use Rattle.rules.specs.Operands.{point}
-use Rattle.rules.specs.Record.{words, bytesOf, flags, origin, recordOf, figure}
+use Rattle.rules.specs.Record.{words, bytesOf, flags, recordOf, figure}
 use Rattle.rules.specs.Drawing.{row, rows, rowOf, roleOf, dueAfter, lengthOf, withPoint, withOperand, withDue, Draw, drawFigure, apply, nextOperand}
-use Rattle.rules.specs.Reading.{roomForStep}
 use Rattle.records.specs.declared.Head.{Head}
 use Rattle.records.specs.Bytes.{overwrite, headBytes}
 use Rattle.records.proofs.Heads.{record-bytes}

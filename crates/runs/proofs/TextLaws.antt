@@ -10,10 +10,10 @@ use lib.ListN.{length, getD, set}
 use borrow.Author.Tests.{ne-eqb}
 use Rattle.rules.specs.Types.{Character, Command, Drawing, Look, Pen, Point, Repertoire, Primary, Supplementary, Mosaic, Drcs}
 use Rattle.rules.specs.Types.{Set, Characters}
-use Rattle.rules.specs.Record.{words, bytesOf, setNumber, origin, recordOf, mark}
+use Rattle.rules.specs.Numbers.{roomForStep, origin}
+use Rattle.rules.specs.Record.{words, bytesOf, setNumber, recordOf, mark}
 use Rattle.rules.specs.Coding.{React, character, graphic}
 use Rattle.rules.specs.Drawing.{Outcome, Draw, andThen, noOperand, newCommand, act, isOpen}
-use Rattle.rules.specs.Reading.{roomForStep}
 use Rattle.rules.proofs.RecordCount.{closed, closed-close}
 use Rattle.records.specs.declared.Head.{Head}
 use Rattle.records.specs.Bytes.{overwrite, headOf, headBytes}

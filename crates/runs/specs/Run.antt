@@ -5,9 +5,9 @@ use mathlib.Core.List.{List}
 use mathlib.Core.Path.{_≡_}
 use lib.ListN.{length, getD}
 use Rattle.rules.specs.Types.{Action, Coding, Command, Drawing, Look, Pen, Record, Set, Nothing}
+use Rattle.rules.specs.Numbers.{roomForStep}
 use Rattle.rules.specs.Coding.{React, setOf, react}
 use Rattle.rules.specs.Drawing.{Draw, act}
-use Rattle.rules.specs.Reading.{roomForStep}
 use Rattle.figures.specs.Carried.{Carried, carry, drawingOf}
 
 -- A byte that asks an action of drawing and changes nothing else, wherever nothing is waited for and the set is in use

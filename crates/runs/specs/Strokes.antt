@@ -5,9 +5,9 @@ use mathlib.Core.List.{List}
 use mathlib.Core.Path.{_≡_}
 use lib.ListN.{length}
 use Rattle.rules.specs.Types.{Command, First, Look, A, Pen, Point, Pdi}
+use Rattle.rules.specs.Numbers.{roomForStep}
 use Rattle.rules.specs.Drawing.{row, rowOf, noOperand}
 use Rattle.rules.specs.Record.{recordOf}
-use Rattle.rules.specs.Reading.{roomForStep}
 use Rattle.records.specs.declared.Head.{Head}
 use Rattle.records.specs.Bytes.{headOf, headBytes}
 use Rattle.runs.specs.Run.{standing, Run}

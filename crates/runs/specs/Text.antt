@@ -2,7 +2,7 @@
 use Prim.Native.Nat.{ℕ, zero, suc, _+_, _*_}
 use mathlib.Core.List.{List}
 use Rattle.rules.specs.Types.{Command, Look, Operand, Pen, Repertoire, Primary, Supplementary, Mosaic, Drcs}
-use Rattle.rules.specs.Record.{origin}
+use Rattle.rules.specs.Numbers.{origin}
 use Rattle.rules.specs.Drawing.{noOperand, newCommand}
 use Rattle.figures.specs.Carried.{Carried}
 use Rattle.runs.specs.Run.{standing}

@@ -4,9 +4,10 @@ pub mod text;
 
 use rules::Command;
 use rules::Pen;
+use rules::RECORD_SIZE;
 use rules::ROOM_FOR_STEP;
 ghost use Prim.Native.Nat.{ℕ, _+_, _*_, _<_, _≤_};
-ghost use Rattle.rules.specs.Reading.{roomForStep};
+ghost use Rattle.rules.specs.Numbers.{roomForStep};
 
 // How many bytes a run took, the place after their records, and what they left.
 pub struct Ran {
@@ -23,7 +24,7 @@ fn most_steps(left: usize, room: usize) -> usize
     if room < ROOM_FOR_STEP {
         return 0;
     }
-    let places = (room - 80) / 40;
+    let places = (room - 80) / RECORD_SIZE;
     if left < places {
         return left;
     }

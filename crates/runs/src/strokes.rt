@@ -13,6 +13,7 @@ use rules::Look;
 use rules::ORIGIN;
 use rules::Pen;
 use rules::Point;
+use rules::RECORD_SIZE;
 use rules::ROOM_FOR_STEP;
 ghost use mathlib.Core.Path.{_≡_};
 ghost use mathlib.Core.Bool.{true, false};
@@ -92,13 +93,13 @@ fn lines(
             break;
         }
         let q = point_of_three(w);
-        put_words(out, at + 40 * n, head, point, q, ORIGIN, pel);
+        put_words(out, at + RECORD_SIZE * n, head, point, q, ORIGIN, pel);
         point = q;
         n += 1;
     }
     Lined {
         count: 3 * n,
-        at: at + 40 * n,
+        at: at + RECORD_SIZE * n,
         point,
     }
 }

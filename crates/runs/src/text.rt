@@ -11,13 +11,14 @@ use rules::Command;
 use rules::Look;
 use rules::ORIGIN;
 use rules::Pen;
+use rules::RECORD_SIZE;
 use rules::Repertoire;
 use rules::Set;
 ghost use mathlib.Core.Path.{_≡_};
 ghost use mathlib.Core.List.{List};
 ghost use Prim.Native.Nat.{ℕ, _+_, _*_, _<_, _≤_};
 ghost use lib.ListN.{length};
-ghost use Rattle.rules.specs.Reading.{roomForStep};
+ghost use Rattle.rules.specs.Numbers.{roomForStep};
 ghost use Rattle.runs.specs.Run.{Run, standing};
 ghost use Rattle.runs.specs.Text.{lastCharacter, typed};
 
@@ -68,7 +69,7 @@ fn put_characters(
         }
         put_words(
             out,
-            at + 40 * count,
+            at + RECORD_SIZE * count,
             with_code(head, code),
             point,
             ORIGIN,
@@ -110,7 +111,7 @@ pub fn run_text(
     }
     Ran {
         count,
-        at: at + 40 * count,
+        at: at + RECORD_SIZE * count,
         pen: resting(pen.point),
         command: new_command(0, ORIGIN),
     }

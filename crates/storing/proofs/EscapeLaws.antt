@@ -8,7 +8,8 @@ use native.Mathlib.Omega.{arith}
 use borrow.Author.Tests.{eqb-true, eqb-false, ltb-true, ltb-false, ne-eqb}
 use lib.Dec.{eqb, ltb}
 use Rattle.rules.specs.Types.{Definition, Refusal, StoreFull, OutOfRange}
-use Rattle.rules.specs.Store.{nextOf, setNext, countOf, setCount, goodCount, setBodyByte, Filling, Storing, NotStored, Stored, onStore, takeCell, linkCell, storeInNew, storeInLast, storeByte, storeNext, storeEscapeAnd, esc}
+use Rattle.rules.specs.Numbers.{esc}
+use Rattle.rules.specs.Store.{nextOf, setNext, countOf, setCount, goodCount, setBodyByte, Filling, Storing, NotStored, Stored, onStore, takeCell, linkCell, storeInNew, storeInLast, storeByte, storeNext, storeEscapeAnd}
 use Rattle.rules.proofs.Bools.{by-test, pick-by}
 use Rattle.macros.specs.Lent.{Sized}
 use Rattle.storing.specs.Storing.{fillingOf, storingOf, KeptIfRefused}

@@ -3,8 +3,9 @@ use Prim.Native.Nat.{ℕ, _-_}
 use mathlib.Core.List.{List}
 use lib.Dec.{ltb, eqb}
 use Rattle.rules.specs.Types.{StoreFull, OutOfRange}
+use Rattle.rules.specs.Numbers.{mostBytes}
 use Rattle.rules.specs.Choice.{pick}
-use Rattle.rules.specs.Store.{nextOf, countOf, mostBytes, goodCount}
+use Rattle.rules.specs.Store.{nextOf, countOf, goodCount}
 use Rattle.storing.specs.declared.escapes.Room.{Room}
 use Rattle.storing.specs.declared.escapes.Room.the-variants.{Enough, Refused}
 

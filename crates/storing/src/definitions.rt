@@ -1,5 +1,4 @@
 // The open definition: a byte is stored at the end of its chain.
-use macros::cells::MOST_BYTES;
 use macros::cells::count_of;
 use macros::cells::good_count;
 use macros::cells::next_of;
@@ -8,6 +7,7 @@ use macros::cells::set_count;
 use macros::cells::set_next;
 use macros::names::set_first;
 use rules::Definition;
+use rules::MOST_BYTES;
 use rules::Refusal;
 ghost use lib.Dec.{eqb};
 ghost use mathlib.Core.Path.{_≡_};

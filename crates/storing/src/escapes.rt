@@ -1,12 +1,12 @@
 // ESC and another byte of the open definition: both are stored, or neither.
 use crate::definitions::StoreAnswer;
 use crate::definitions::store_byte;
-use macros::cells::MOST_BYTES;
 use macros::cells::count_of;
 use macros::cells::good_count;
 use macros::cells::next_of;
 use rules::Definition;
 use rules::ESC;
+use rules::MOST_BYTES;
 use rules::Refusal;
 ghost use mathlib.Core.Path.{_≡_};
 ghost use Rattle.rules.specs.Store.{storeEscapeAnd};

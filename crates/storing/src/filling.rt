@@ -1,13 +1,13 @@
 // Runs of bytes of the open definition.
 use crate::definitions::StoreAnswer;
 use crate::definitions::store_byte;
-use macros::cells::MOST_BYTES;
 use macros::cells::count_of;
 use macros::cells::good_count;
 use macros::cells::lay_bytes;
 use macros::cells::set_count;
 use rules::Definition;
 use rules::ESC;
+use rules::MOST_BYTES;
 ghost use lib.ListN.{length, getD};
 ghost use mathlib.Core.Bool.{true};
 ghost use mathlib.Core.List.{List};

@@ -11,12 +11,12 @@ use lib.Dec.{eqb}
 use borrow.Author.Tests.{lt-ltb, le-ltb}
 use Rattle.rules.specs.Types.{Action, Idle, Bodies, Coding, Command, Cursor, Drawing, Look, Pen}
 use Rattle.rules.specs.Types.{Refusal, DefinitionInBody, TooDeep, TooManyVertices, Answer, Refused, Sets, Running, Waiting}
+use Rattle.rules.specs.Numbers.{mostDepth, roomForStep}
 use Rattle.rules.specs.Store.{firstOf}
-use Rattle.rules.specs.Bodies.{mostDepth}
 use Rattle.rules.specs.Coding.{Reaction, Refuse, Call, React, react, afterEscape}
 use Rattle.rules.specs.Drawing.{Outcome, NotDrawn, Draw, act}
 use Rattle.rules.specs.Record.{bytesOfAll}
-use Rattle.rules.specs.Reading.{roomForStep, consumedBy}
+use Rattle.rules.specs.Reading.{consumedBy}
 use Rattle.rules.specs.Step.{State, withBodies, Move, onOutcome, call, onReaction, opensInside, interpret}
 use Rattle.rules.proofs.Bools.{true-false, false-true}
 use Rattle.records.proofs.Writes.{overwrite-none}

@@ -11,11 +11,11 @@ use lib.Seq.{drop-cons, getD-drop}
 use lib.Dec.{ltb, leb}
 use borrow.Author.Tests.{lt-ltb, le-ltb, leb-true, leb-false, eqb-true}
 use Rattle.rules.specs.Types.{Action, Done, Full, Refused, Bodies, Cursor, Drawing, Read, Byte, BadCell, BudgetUsed, OutOfRange}
-use Rattle.rules.specs.Store.{storeSize}
-use Rattle.rules.specs.Bodies.{bodyAt, withBody, readBody, depthLeft, unspent, mostDepth}
+use Rattle.rules.specs.Numbers.{storeSize, mostDepth, roomForStep}
+use Rattle.rules.specs.Bodies.{bodyAt, withBody, readBody, depthLeft, unspent}
 use Rattle.rules.specs.Ranges.{placesFit, bodiesFit, waitingFits}
 use Rattle.rules.specs.Step.{State, withBodies, removeSpent, Sought, NothingLeft, Spoilt, Found, FromBody, fromBody, seekAt, seek}
-use Rattle.rules.specs.Reading.{roomForStep, consumedBy}
+use Rattle.rules.specs.Reading.{consumedBy}
 use Rattle.rules.proofs.Bools.{true-false, false-true, and-left}
 use Rattle.rules.proofs.Steps.{Valid}
 use Rattle.bodies.specs.Stack.{bodiesOf}

@@ -6,10 +6,11 @@ use lib.ListN.{length, getD}
 use lib.Dec.{ltb}
 use Rattle.rules.specs.Types.{Bodies, Cursor, Read, Byte, Record, Refusal, BudgetUsed, OutOfRange, Stopped}
 use Rattle.rules.specs.Types.{Answer, Done, Full, Refused}
+use Rattle.rules.specs.Numbers.{roomForStep}
 use Rattle.rules.specs.Bodies.{bodyAt, withBody, readBody}
 use Rattle.rules.specs.Record.{bytesOfAll}
 use Rattle.rules.specs.Step.{State, withBodies, withStatus, removeSpent, Source, FromBody, FromPiece, Sought, NothingLeft, Spoilt, Found, seek, Move, Stops, Goes, interpret}
-use Rattle.rules.specs.Reading.{roomForStep, consumedBy}
+use Rattle.rules.specs.Reading.{consumedBy}
 use Rattle.records.specs.Bytes.{overwrite}
 use Rattle.turns.specs.declared.step.Course.{Course}
 use Rattle.turns.specs.declared.step.Course.the-variants.{GoesOn, Ends as Ends·course}

@@ -5,9 +5,10 @@ use mathlib.Core.Path.{_≡_}
 use mathlib.Core.List.{List}
 use Rattle.rules.specs.Types.{Bodies, Coding, Cursor, Drawing, Sets, Waiting, Session, Status, Running, Stopped}
 use Rattle.rules.specs.Types.{Answer, Done, Full, Refused}
+use Rattle.rules.specs.Numbers.{roomForStep}
 use Rattle.rules.specs.Drawing.{act}
 use Rattle.rules.specs.Step.{State, stateOf, withStatus, onOutcome}
-use Rattle.rules.specs.Reading.{roomForStep, consumedBy}
+use Rattle.rules.specs.Reading.{consumedBy}
 use Rattle.bodies.specs.Stack.{bodiesOf}
 use Rattle.coding.specs.View.{codingOf, setsAfter}
 use Rattle.coding.specs.declared.reactions.Reacted.{Reacted}

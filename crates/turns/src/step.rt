@@ -1,5 +1,4 @@
 // One step: a byte that was read is interpreted. All that can refuse it comes before the first change.
-use bodies::MOST_DEPTH;
 use bodies::set_body;
 use coding::react;
 use coding::reactions::Effect;
@@ -13,6 +12,7 @@ use rules::Answer;
 use rules::Command;
 use rules::Cursor;
 use rules::Look;
+use rules::MOST_DEPTH;
 use rules::Pen;
 use rules::Refusal;
 use rules::Sets;
@@ -23,11 +23,11 @@ ghost use mathlib.Core.Bool.{true};
 ghost use mathlib.Core.List.{List};
 ghost use Prim.Native.Nat.{ℕ, _+_, _≤_, _<_};
 ghost use lib.ListN.{length};
+ghost use Rattle.rules.specs.Numbers.{roomForStep};
 ghost use Rattle.rules.specs.declared.Drawing.{Drawing};
 ghost use Rattle.rules.specs.Drawing.{act};
 ghost use Rattle.rules.specs.Ranges.{waitingFits, drawingFits};
 ghost use Rattle.rules.specs.Step.{onOutcome, call, opensInside};
-ghost use Rattle.rules.specs.Reading.{roomForStep};
 ghost use Rattle.macros.specs.Lent.{Sized, IsName};
 ghost use Rattle.figures.specs.Carried.{carryOut, drawingOf, carriedOf};
 ghost use Rattle.bodies.specs.Stack.{bodiesOf};

@@ -10,8 +10,8 @@ use rules::Verdict;
 ghost use mathlib.Core.Path.{_≡_};
 ghost use mathlib.Core.Bool.{true};
 ghost use lib.Dec.{eqb};
+ghost use Rattle.rules.specs.Numbers.{storeSize};
 ghost use Rattle.rules.specs.Ranges.{fits};
-ghost use Rattle.rules.specs.Store.{storeSize};
 ghost use Rattle.rules.specs.Reading.{verdict};
 ghost use Rattle.verdict.specs.Order.{inOrder};
 

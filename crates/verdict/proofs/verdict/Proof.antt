@@ -1,7 +1,7 @@
 use Rattle.verdict.proofs.VerdictLaws.{in-order}
 use lib.Dec.{eqb}
+use Rattle.rules.specs.Numbers.{storeSize}
 use Rattle.rules.specs.Ranges.{fits}
-use Rattle.rules.specs.Store.{storeSize}
 use borrow.Author.Needs.{needs}
 use Rattle.verdict.proofs.verdict.Statement.{statement}
 use Rattle.verdict.proofs.verdict.Tie as tie

@@ -2,8 +2,8 @@ use mathlib.Core.Path.{sym, _∙_}
 use native.Mathlib.Omega.{arith}
 use borrow.Author.Needs.{needs}
 use borrow.Author.Tests.{eqb-true, ne-eqb}
+use Rattle.rules.specs.Numbers.{esc}
 use Rattle.rules.proofs.Bools.{false-true}
-use Rattle.rules.specs.Store.{esc}
 use Rattle.idle.proofs.definitions.escape_then.Statement.{statement}
 use Rattle.idle.proofs.definitions.escape_then.Tie as tie
 

@@ -6,8 +6,8 @@ use lib.ListN.{length}
 use denote.Ref.{now}
 use borrow.Author.Needs.{needs}
 use borrow.Author.Tests.{not-false}
+use Rattle.rules.specs.Numbers.{roomForStep}
 use Rattle.rules.specs.Operands.{point}
-use Rattle.rules.specs.Reading.{roomForStep}
 use Rattle.coordinates.specs.Data.{allData}
 use Rattle.coordinates.proofs.WholeLaws.{three-told}
 use Rattle.runs.specs.Strokes.{Lines}

@@ -1,8 +1,8 @@
 use mathlib.Core.Path.{sym, ap, _∙_}
 use mathlib.Core.Bool.{not}
 use borrow.Author.Tests.{eq-eqb}
+use Rattle.rules.specs.Numbers.{esc}
 use Rattle.rules.proofs.Bools.{false-true}
-use Rattle.rules.specs.Store.{esc}
 use borrow.Author.Needs.{needs}
 use Rattle.storing.proofs.filling.stores_at.Statement.{statement}
 use Rattle.storing.proofs.filling.stores_at.Tie as tie

@@ -1,8 +1,8 @@
 use borrow.Author.Tests.{ne-eqb}
 use native.Mathlib.Omega.{arith}
+use Rattle.rules.specs.Numbers.{esc}
 use Rattle.rules.specs.Coding.{innerOf}
 use Rattle.rules.proofs.Spans.{inside, under, over}
-use Rattle.rules.specs.Store.{esc}
 use Rattle.tables.proofs.escapes.inner_of.Statement.{statement}
 use Rattle.tables.proofs.escapes.inner_of.Tie as tie
 

@@ -1,0 +1,35 @@
+-- The numbers of document 01 that more than one definition needs; src/lib.rt has them as constants of the same names
+use Prim.Native.Nat.{ℕ}
+use Rattle.rules.specs.Types.{Point}
+
+-- "Open takes a store of exactly 8,192 bytes ..". "The store is 256 cells of 32 bytes."
+abbrev pub storeSize : ℕ
+storeSize = 8192
+
+-- ".. byte 1 counts the body bytes (1 to 30) that follow."
+abbrev pub mostBytes : ℕ
+mostBytes = 30
+
+-- ".. depth at most 8, .."
+abbrev pub mostDepth : ℕ
+mostDepth = 8
+
+-- "Escape (1/11)"
+abbrev pub esc : ℕ
+esc = 27
+
+-- "Record, 40 bytes"
+abbrev pub recordSize : ℕ
+recordSize = 40
+
+-- ".. fewer than 120 bytes free in the output, answer full; ..": three records
+abbrev pub roomForStep : ℕ
+roomForStep = 120
+
+-- POLYGON: "Start included, at most 256 vertices." 9: "vertex 257"
+abbrev pub mostVertices : ℕ
+mostVertices = 256
+
+-- "drawing point (0, 0)"
+abbrev pub origin : Point
+origin = record { x = 0; y = 0 }
