@@ -9,7 +9,18 @@ use lib.ListN.{length, getD, set}
 use lib.Seq.{set-getD}
 use lib.Dec.{ltb}
 use borrow.Author.Tests.{ltb-true, ltb-false}
-use Rattle.rules.specs.Types.{Command, Cursor, Drawing, Look, Pen, Point, Set, Macro, Sets, Waiting, Nothing, Running}
+use Rattle.rules.specs.declared.Command.{Command}
+use Rattle.rules.specs.declared.Cursor.{Cursor}
+use Rattle.rules.specs.declared.Drawing.{Drawing}
+use Rattle.rules.specs.declared.Look.{Look}
+use Rattle.rules.specs.declared.Pen.{Pen}
+use Rattle.rules.specs.declared.Point.{Point}
+use Rattle.rules.specs.declared.Set.{Set}
+use Rattle.rules.specs.declared.Set.the-variants.{Macro}
+use Rattle.rules.specs.declared.Sets.{Sets}
+use Rattle.rules.specs.declared.Waiting.{Waiting}
+use Rattle.rules.specs.declared.Waiting.the-variants.{Nothing}
+use Rattle.rules.specs.declared.Status.the-variants.{Running}
 use Rattle.rules.specs.Numbers.{mostBytes, roomForStep}
 use Rattle.rules.specs.Bodies.{bodyAt, depthLeft}
 use Rattle.rules.specs.Coding.{setOf}

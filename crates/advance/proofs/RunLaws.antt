@@ -9,8 +9,18 @@ use lib.ListN.{length, drop, getD, set}
 use lib.Seq.{drop-cons, getD-set-same, set-getD}
 use lib.Dec.{ltb}
 use borrow.Author.Tests.{le-ltb}
-use Rattle.rules.specs.Types.{Action, Idle as Idle·action, Bodies, Column2, Above, Coding, Cursor, Drawing, Record, Macro}
-use Rattle.rules.specs.Types.{Running, Waiting, Nothing}
+use Rattle.rules.specs.declared.Action.{Action}
+use Rattle.rules.specs.declared.Action.the-variants.{Idle as Idle·action}
+use Rattle.rules.specs.declared.Bodies.{Bodies}
+use Rattle.rules.specs.declared.Class.the-variants.{Column2, Above}
+use Rattle.rules.specs.declared.Coding.{Coding}
+use Rattle.rules.specs.declared.Cursor.{Cursor}
+use Rattle.rules.specs.declared.Drawing.{Drawing}
+use Rattle.rules.specs.declared.Record.{Record}
+use Rattle.rules.specs.declared.Set.the-variants.{Macro}
+use Rattle.rules.specs.declared.Status.the-variants.{Running}
+use Rattle.rules.specs.declared.Waiting.{Waiting}
+use Rattle.rules.specs.declared.Waiting.the-variants.{Nothing}
 use Rattle.rules.specs.Numbers.{roomForStep}
 use Rattle.rules.specs.Choice.{pick}
 use Rattle.rules.specs.Bodies.{bodyAt, hasLeft, depthLeft, unspent}

@@ -11,7 +11,8 @@ use lib.Dec.{ltb}
 use borrow.Author.Tests.{le-leb, lt-leb, ltb-true, ltb-false}
 use lib.ListN.{length, getD, drop, drop-of-length-le}
 use lib.Seq.{drop-cons}
-use Rattle.rules.specs.Types.{Bodies, Cursor}
+use Rattle.rules.specs.declared.Bodies.{Bodies}
+use Rattle.rules.specs.declared.Cursor.{Cursor}
 use Rattle.rules.specs.Choice.{pick}
 use Rattle.rules.specs.Bodies.{bodyAt, hasLeft, depthLeft}
 use Rattle.rules.specs.Ranges.{placesFit}

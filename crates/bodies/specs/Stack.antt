@@ -1,7 +1,7 @@
 -- The running bodies as they are lent: the depth, and beside it the cell and the place of each body
 use Prim.Native.Nat.{ℕ}
 use mathlib.Core.List.{List}
-use Rattle.rules.specs.Types.{Bodies}
+use Rattle.rules.specs.declared.Bodies.{Bodies}
 
 abbrev pub bodiesOf : ℕ → List ℕ → List ℕ → Bodies
 bodiesOf depth cells places = record { depth = depth; cells = cells; places = places }

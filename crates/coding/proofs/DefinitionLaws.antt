@@ -6,7 +6,15 @@ use mathlib.Core.List.{List}
 use Prim.Native.Nat.{ℕ, _<_, _≤_}
 use borrow.Author.Tests.{lt-ltb, le-ltb}
 use lib.Dec.{ltb}
-use Rattle.rules.specs.Types.{Column2, Above, Definition, Refusal, NameBelow, Sets, Waiting, Name, Body, Idle, Coding}
+use Rattle.rules.specs.declared.Class.the-variants.{Column2, Above}
+use Rattle.rules.specs.declared.Definition.{Definition}
+use Rattle.rules.specs.declared.Refusal.{Refusal}
+use Rattle.rules.specs.declared.Refusal.the-variants.{NameBelow}
+use Rattle.rules.specs.declared.Sets.{Sets}
+use Rattle.rules.specs.declared.Waiting.{Waiting}
+use Rattle.rules.specs.declared.Waiting.the-variants.{Name, Body}
+use Rattle.rules.specs.declared.Action.the-variants.{Idle}
+use Rattle.rules.specs.declared.Coding.{Coding}
 use Rattle.rules.specs.Choice.{pick}
 use Rattle.rules.specs.Store.{firstOf, setFirst, freeBody, Storing}
 use Rattle.rules.specs.Coding.{Refuse, React, named, openBody, keep, classOf, reactTo}

@@ -9,11 +9,25 @@ use Prim.Native.Nat.{ℕ, _≤_}
 use borrow.Author.Tests.{ltb-false}
 use lib.Dec.{ltb, eqb}
 use Rattle.rules.proofs.Bools.{pick-all, pick-by}
-use Rattle.rules.specs.Types.{Action, Idle, Class, Below, Column2, Above, Coding}
-use Rattle.rules.specs.Types.{Control, Ignored, Locks, Shifts, Escapes, Barred, Recorded, Definition}
-use Rattle.rules.specs.Types.{Designated, Names, Unassigned, Element, Final, Opens, Refuses, UsesG2, UsesG3, Closes, NoMeaning}
-use Rattle.rules.specs.Types.{Inner, OpensNext, Bars, EndsBody, StartsAfresh, StoresBoth, Set, Characters, Pdi, Macro}
-use Rattle.rules.specs.Types.{Waiting, Nothing, Shifted, Escape, Designator, Longer, Name, Body, BodyEscape}
+use Rattle.rules.specs.declared.Action.{Action}
+use Rattle.rules.specs.declared.Action.the-variants.{Idle}
+use Rattle.rules.specs.declared.Class.{Class}
+use Rattle.rules.specs.declared.Class.the-variants.{Below, Column2, Above}
+use Rattle.rules.specs.declared.Coding.{Coding}
+use Rattle.rules.specs.declared.Control.{Control}
+use Rattle.rules.specs.declared.Control.the-variants.{Ignored, Locks, Shifts, Escapes, Barred, Recorded}
+use Rattle.rules.specs.declared.Definition.{Definition}
+use Rattle.rules.specs.declared.Designated.{Designated}
+use Rattle.rules.specs.declared.Designated.the-variants.{Names, Unassigned}
+use Rattle.rules.specs.declared.Element.{Element}
+use Rattle.rules.specs.declared.Final.{Final}
+use Rattle.rules.specs.declared.Final.the-variants.{Opens, Refuses, UsesG2, UsesG3, Closes, NoMeaning}
+use Rattle.rules.specs.declared.Inner.{Inner}
+use Rattle.rules.specs.declared.Inner.the-variants.{OpensNext, Bars, EndsBody, StartsAfresh, StoresBoth}
+use Rattle.rules.specs.declared.Set.{Set}
+use Rattle.rules.specs.declared.Set.the-variants.{Characters, Pdi, Macro}
+use Rattle.rules.specs.declared.Waiting.{Waiting}
+use Rattle.rules.specs.declared.Waiting.the-variants.{Nothing, Shifted, Escape, Designator, Longer, Name, Body, BodyEscape}
 use Rattle.rules.specs.Numbers.{esc}
 use Rattle.rules.specs.Store.{firstOf, Freeing, NotFreed, Freed, freeBody, Storing, NotStored, Stored, storeByte, storeEscapeAnd}
 use Rattle.rules.specs.Coding.{Reaction, Refuse, Call, React, setOf, shiftedTo, wait, named, openBody, keep, filling, inBody, innerOf, inBodyEscape, finalOf, escape, designatedBy, designation, control, graphic, classOf, reactTo, react}

@@ -11,8 +11,15 @@ use denote.Enum.Declared.{tagOf}
 use Rattle.rules.proofs.Waiting.{the-type as the-waiting}
 use Rattle.coding.proofs.reactions.Effect.{the-type as the-effect}
 use Rattle.rules.proofs.Bools.{and-left, and-right}
-use Rattle.rules.specs.Types.{Class, Below, Column2, Above, Coding, Definition, Element, ByteOver127, Sets}
-use Rattle.rules.specs.Types.{Waiting, Nothing, Shifted, Escape, Designator, Longer, Name, Body, BodyEscape}
+use Rattle.rules.specs.declared.Class.{Class}
+use Rattle.rules.specs.declared.Class.the-variants.{Below, Column2, Above}
+use Rattle.rules.specs.declared.Coding.{Coding}
+use Rattle.rules.specs.declared.Definition.{Definition}
+use Rattle.rules.specs.declared.Element.{Element}
+use Rattle.rules.specs.declared.Refusal.the-variants.{ByteOver127}
+use Rattle.rules.specs.declared.Sets.{Sets}
+use Rattle.rules.specs.declared.Waiting.{Waiting}
+use Rattle.rules.specs.declared.Waiting.the-variants.{Nothing, Shifted, Escape, Designator, Longer, Name, Body, BodyEscape}
 use Rattle.rules.specs.Coding.{Refuse, classOf, reactTo, react}
 use Rattle.rules.specs.Ranges.{nameFits, waitingFits}
 use Rattle.macros.specs.Lent.{IsName}

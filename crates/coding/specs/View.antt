@@ -2,8 +2,14 @@
 use Prim.Native.Nat.{ℕ}
 use mathlib.Core.List.{List}
 use mathlib.Core.Path.{_≡_}
-use Rattle.rules.specs.Types.{Element, Sets, Waiting, Nothing, Shifted, Escape, Designator, Longer, Name, Body, BodyEscape}
-use Rattle.rules.specs.Types.{Class, Below, Column2, Above, Idle, Coding}
+use Rattle.rules.specs.declared.Element.{Element}
+use Rattle.rules.specs.declared.Sets.{Sets}
+use Rattle.rules.specs.declared.Waiting.{Waiting}
+use Rattle.rules.specs.declared.Waiting.the-variants.{Nothing, Shifted, Escape, Designator, Longer, Name, Body, BodyEscape}
+use Rattle.rules.specs.declared.Class.{Class}
+use Rattle.rules.specs.declared.Class.the-variants.{Below, Column2, Above}
+use Rattle.rules.specs.declared.Action.the-variants.{Idle}
+use Rattle.rules.specs.declared.Coding.{Coding}
 use Rattle.rules.specs.Coding.{Reaction, Refuse, Call, React, setOf, inUse, designate, shiftedTo, wait, control, graphic}
 use Rattle.coding.specs.declared.reactions.Effect.{Effect}
 use Rattle.coding.specs.declared.reactions.Effect.the-variants.{Refuses, Calls, Acts, Uses, Designates}

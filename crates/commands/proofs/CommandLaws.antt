@@ -9,8 +9,20 @@ use mathlib.Core.List.{List}
 use lib.Dec.{leb}
 use lib.ListN.{length, getD}
 use borrow.Author.Tests.{lt-ltb, le-ltb, leb-true}
-use Rattle.rules.specs.Types.{Action, Control·action as Control, Opcode, Data, Command, Ignored, Recorded, Domain, Drawing, Look}
-use Rattle.rules.specs.Types.{Operand, Pen, Point, Dropped, Row, Set, Pdi}
+use Rattle.rules.specs.declared.Action.{Action}
+use Rattle.rules.specs.declared.Action.the-variants.{Control, Opcode, Data}
+use Rattle.rules.specs.declared.Command.{Command}
+use Rattle.rules.specs.declared.Control.the-variants.{Ignored, Recorded}
+use Rattle.rules.specs.declared.Domain.{Domain}
+use Rattle.rules.specs.declared.Drawing.{Drawing}
+use Rattle.rules.specs.declared.Look.{Look}
+use Rattle.rules.specs.declared.Operand.{Operand}
+use Rattle.rules.specs.declared.Pen.{Pen}
+use Rattle.rules.specs.declared.Point.{Point}
+use Rattle.rules.specs.declared.Role.the-variants.{Dropped}
+use Rattle.rules.specs.declared.Row.{Row}
+use Rattle.rules.specs.declared.Set.{Set}
+use Rattle.rules.specs.declared.Set.the-variants.{Pdi}
 use Rattle.rules.specs.Numbers.{roomForStep}
 use Rattle.rules.specs.Coding.{controls}
 use Rattle.rules.specs.Drawing.{other, rows, rowOf, roleOf, noOperand, Outcome, NotDrawn, Draw, act}

@@ -9,9 +9,14 @@ use types.Run.{OneOf, miss}
 use denote.Enum.Declared.{tagOf}
 use borrow.Author.Tests.{eq-eqb, ne-eqb, lt-ltb, le-ltb}
 use Rattle.rules.proofs.Role.{the-type as the-role}
-use Rattle.rules.specs.Types.{Command, Drawing, Look, Operand, Point}
-use Rattle.rules.specs.Types.{Role, MoveTo, DrawTo, DrawBy, Middle, ArcEnd, Start, Edge, Lengths, Pel, Foreground, Background}
-use Rattle.rules.specs.Types.{Shade·role as Shade, Dropped, Row}
+use Rattle.rules.specs.declared.Command.{Command}
+use Rattle.rules.specs.declared.Drawing.{Drawing}
+use Rattle.rules.specs.declared.Look.{Look}
+use Rattle.rules.specs.declared.Operand.{Operand}
+use Rattle.rules.specs.declared.Point.{Point}
+use Rattle.rules.specs.declared.Role.{Role}
+use Rattle.rules.specs.declared.Role.the-variants.{MoveTo, DrawTo, DrawBy, Middle, ArcEnd, Start, Edge, Lengths, Pel, Foreground, Background, Shade, Dropped}
+use Rattle.rules.specs.declared.Row.{Row}
 use Rattle.rules.specs.Numbers.{recordSize, origin}
 use Rattle.rules.specs.Record.{words, bytesOf, flags, recordOf, figure, mark}
 use Rattle.rules.specs.Drawing.{rowOf, roleOf, noOperand, Draw, arcTo, closingEdge, finish, newCommand, close, openCommand, act}

@@ -7,9 +7,18 @@ use mathlib.Core.Bool.{Bool, true, false, _||_}
 use mathlib.Core.List.{List, [], _∷_}
 use lib.Dec.{eqb}
 use lib.ListN.{length, take, drop}
-use Rattle.rules.specs.Types.{Command, Domain, Drawing, Look, Operand, Pen, Point, Record}
-use Rattle.rules.specs.Types.{Role, MoveTo, DrawTo, DrawBy, Middle, ArcEnd, Start, Edge, Lengths, Pel, Foreground, Background}
-use Rattle.rules.specs.Types.{Shade·role as Shade, Dropped, Row, Pdi}
+use Rattle.rules.specs.declared.Command.{Command}
+use Rattle.rules.specs.declared.Domain.{Domain}
+use Rattle.rules.specs.declared.Drawing.{Drawing}
+use Rattle.rules.specs.declared.Look.{Look}
+use Rattle.rules.specs.declared.Operand.{Operand}
+use Rattle.rules.specs.declared.Pen.{Pen}
+use Rattle.rules.specs.declared.Point.{Point}
+use Rattle.rules.specs.declared.Record.{Record}
+use Rattle.rules.specs.declared.Role.{Role}
+use Rattle.rules.specs.declared.Role.the-variants.{MoveTo, DrawTo, DrawBy, Middle, ArcEnd, Start, Edge, Lengths, Pel, Foreground, Background, Shade, Dropped}
+use Rattle.rules.specs.declared.Row.{Row}
+use Rattle.rules.specs.declared.Set.the-variants.{Pdi}
 use Rattle.rules.specs.Numbers.{roomForStep, origin}
 use Rattle.rules.specs.Choice.{pick}
 use Rattle.rules.specs.Operands.{point, displaced, displacedOut}

@@ -4,9 +4,16 @@ use mathlib.Core.Bool.{Bool, true, false}
 use mathlib.Core.List.{List}
 use mathlib.Core.Path.{_≡_}
 use lib.Dec.{ltb}
-use Rattle.rules.specs.Types.{Action, Control·action as Control, Opcode, Command, Drawing, Look, Operand, Pen, Point}
-use Rattle.rules.specs.Types.{Role, MoveTo, DrawTo, DrawBy, Middle, ArcEnd, Start, Edge, Lengths, Pel, Foreground, Background}
-use Rattle.rules.specs.Types.{Shade·role as Shade, Dropped}
+use Rattle.rules.specs.declared.Action.{Action}
+use Rattle.rules.specs.declared.Action.the-variants.{Control, Opcode}
+use Rattle.rules.specs.declared.Command.{Command}
+use Rattle.rules.specs.declared.Drawing.{Drawing}
+use Rattle.rules.specs.declared.Look.{Look}
+use Rattle.rules.specs.declared.Operand.{Operand}
+use Rattle.rules.specs.declared.Pen.{Pen}
+use Rattle.rules.specs.declared.Point.{Point}
+use Rattle.rules.specs.declared.Role.{Role}
+use Rattle.rules.specs.declared.Role.the-variants.{MoveTo, DrawTo, DrawBy, Middle, ArcEnd, Start, Edge, Lengths, Pel, Foreground, Background, Shade, Dropped}
 use Rattle.rules.specs.Numbers.{mostVertices}
 use Rattle.rules.specs.Choice.{pick}
 use Rattle.rules.specs.Operands.{displaced, displacedOut}

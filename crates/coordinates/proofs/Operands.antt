@@ -9,7 +9,7 @@ use native.Mathlib.Omega.{arith}
 use lib.Dec.{eqb}
 use lib.ListN.{length, getD, take, drop, replicate}
 use lib.Seq.{take-suc, length-take-le}
-use Rattle.rules.specs.Types.{Point}
+use Rattle.rules.specs.declared.Point.{Point}
 use Rattle.rules.specs.Operands.{bit, xBits, yBits, greenBits, redBits, blueBits, bitsOf, fromTop, point, address, wrappedSum}
 use Rattle.rules.specs.Drawing.{domainOf}
 use Rattle.coordinates.specs.Steps.{joined, pair, pairs}

@@ -10,7 +10,7 @@ use lib.Dec.{leb, eqb}
 use lib.ListN.{length, getD, take, drop, length-drop}
 use lib.Seq.{take-suc, drop-cons, getD-drop, length-take-le, getD-take}
 use borrow.Author.Tests.{leb-true, leb-false, eq-eqb, ne-eqb, eqb-true, not-true}
-use Rattle.rules.specs.Types.{Point}
+use Rattle.rules.specs.declared.Point.{Point}
 use Rattle.rules.specs.Operands.{bitsOf, fromTop, point}
 use Rattle.rules.proofs.Bools.{true-false, and-left, and-right, and-both, by-test, pick-yes, pick-no}
 use Rattle.coordinates.specs.declared.whole.Whole.the-variants.{Cut, Whole as Whole·point}

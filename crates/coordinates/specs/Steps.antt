@@ -1,7 +1,7 @@
 -- An operand's point byte by byte, and the bits of a colour
 use Prim.Native.Nat.{ℕ, _+_, _*_, _-_, _/_, _%_}
 use mathlib.Core.Bool.{Bool, true, false}
-use Rattle.rules.specs.Types.{Point}
+use Rattle.rules.specs.declared.Point.{Point}
 use Rattle.rules.specs.Operands.{xBits, yBits, fromTop, wrappedSum}
 
 -- The bits of a coordinate that a byte has, in two dimensions and in three

@@ -7,7 +7,7 @@ use mathlib.Core.Path.{_≡_, refl, sym, ap, ap₂, _∙_, subst}
 use mathlib.Core.List.{List, [], _∷_, _++_, append-assoc}
 use lib.ListN.{length, getD, take, drop, length-append, length-drop, length-take, take-append-drop, drop-of-length-le}
 use lib.Seq.{take-append-seam, drop-append-seam, drop-append-le, drop-append-add, drop-drop, drop-cons, getD-drop, take-add, length-take-le}
-use Rattle.rules.specs.Types.{Done, Full}
+use Rattle.rules.specs.declared.Answer.the-variants.{Done, Full}
 use Rattle.rules.specs.Step.{State, removeSpent, NothingLeft, seek, Some, stateLent}
 use Rattle.rules.specs.Reading.{Reading, Room, Steps, rests, readTo, undivided}
 use Rattle.rules.specs.Calls.{freshState, Handed, handed, feed, unread, Lent, returned, join, feeds, lentBytes}

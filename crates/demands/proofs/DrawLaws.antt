@@ -9,7 +9,11 @@ use lib.Seq.{take-append-seam, drop-append-seam, take-append-add, take-all}
 use lib.Dec.{ltb, eqb}
 use borrow.Author.Tests.{eq-eqb}
 use borrow.Rule.Slice.PartMut.{putMid}
-use Rattle.rules.specs.Types.{StoreSize, Answer, Done, Full, Refused, Verdict, Passes, Fails}
+use Rattle.rules.specs.declared.Refusal.the-variants.{StoreSize}
+use Rattle.rules.specs.declared.Answer.{Answer}
+use Rattle.rules.specs.declared.Answer.the-variants.{Done, Full, Refused}
+use Rattle.rules.specs.declared.Verdict.{Verdict}
+use Rattle.rules.specs.declared.Verdict.the-variants.{Passes, Fails}
 use Rattle.rules.specs.Numbers.{storeSize, roomForStep}
 use Rattle.rules.specs.Bodies.{bytesLeft}
 use Rattle.rules.specs.Coding.{unfinished}

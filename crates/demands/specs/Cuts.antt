@@ -3,7 +3,7 @@ use Prim.Native.Nat.{ℕ, _+_, _-_, _≤_, min}
 use mathlib.Core.Path.{_≡_}
 use mathlib.Core.List.{List, [], _∷_, _++_}
 use lib.ListN.{length, getD, take, drop}
-use Rattle.rules.specs.Types.{Done, Full}
+use Rattle.rules.specs.declared.Answer.the-variants.{Done, Full}
 use Rattle.rules.specs.Step.{State, removeSpent, NothingLeft, seek}
 use Rattle.rules.specs.Reading.{Steps, rests, readTo, undivided}
 use Rattle.rules.specs.Calls.{Handed, handed, feed, unread}

@@ -3,7 +3,9 @@ use Prim.Native.Nat.{ℕ, _+_, _≤_}
 use mathlib.Core.Path.{_≡_}
 use mathlib.Core.List.{List, _++_}
 use lib.ListN.{length, take, drop}
-use Rattle.rules.specs.Types.{Refusal, Answer, Done, Full, Refused}
+use Rattle.rules.specs.declared.Refusal.{Refusal}
+use Rattle.rules.specs.declared.Answer.{Answer}
+use Rattle.rules.specs.declared.Answer.the-variants.{Done, Full, Refused}
 use Rattle.rules.specs.Numbers.{storeSize}
 use Rattle.rules.specs.Calls.{openPage, Handed, end}
 use Rattle.rules.specs.Expansion.{expansion, endPage, Accepted, allRecords, SameState}

@@ -4,7 +4,10 @@ use Prim.Native.Nat.{ℕ}
 use mathlib.Core.Path.{_≡_}
 use mathlib.Core.List.{List, [], _∷_}
 use borrow.Author.Tests.{eq-eqb, ne-eqb}
-use Rattle.rules.specs.Types.{Command, Row, Record, Drawing}
+use Rattle.rules.specs.declared.Command.{Command}
+use Rattle.rules.specs.declared.Row.{Row}
+use Rattle.rules.specs.declared.Record.{Record}
+use Rattle.rules.specs.declared.Drawing.{Drawing}
 use Rattle.rules.specs.Record.{mark}
 use Rattle.rules.specs.Drawing.{rowOf, withCommand, newCommand, Draw, openCommand}
 use Rattle.figures.specs.Carried.{carry}

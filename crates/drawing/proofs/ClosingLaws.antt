@@ -11,9 +11,10 @@ use types.Run.{OneOf, miss}
 use denote.Enum.Declared.{tagOf}
 use borrow.Author.Tests.{eq-eqb, ne-eqb}
 use Rattle.rules.proofs.Role.{the-type as the-role}
-use Rattle.rules.specs.Types.{Drawing, Row}
-use Rattle.rules.specs.Types.{Role, MoveTo, DrawTo, DrawBy, Middle, ArcEnd, Start, Edge, Lengths, Pel, Foreground, Background}
-use Rattle.rules.specs.Types.{Shade·role as Shade, Dropped}
+use Rattle.rules.specs.declared.Drawing.{Drawing}
+use Rattle.rules.specs.declared.Row.{Row}
+use Rattle.rules.specs.declared.Role.{Role}
+use Rattle.rules.specs.declared.Role.the-variants.{MoveTo, DrawTo, DrawBy, Middle, ArcEnd, Start, Edge, Lengths, Pel, Foreground, Background, Shade, Dropped}
 use Rattle.rules.specs.Numbers.{recordSize, origin}
 use Rattle.rules.specs.Drawing.{rowOf, withCommand, withOperand, noOperand, Outcome, NotDrawn, Draw, andThen, roleDue, applyBegun, complete, finish, newCommand, close}
 use Rattle.rules.proofs.Bools.{pick-yes, pick-no, pick-all}

@@ -7,7 +7,10 @@ use mathlib.Core.List.{List, []}
 use lib.ListN.{length}
 use lib.Dec.{ltb}
 use borrow.Author.Tests.{eq-eqb, ne-eqb, lt-ltb, le-ltb}
-use Rattle.rules.specs.Types.{Drawing, Pen, Row, Role}
+use Rattle.rules.specs.declared.Drawing.{Drawing}
+use Rattle.rules.specs.declared.Pen.{Pen}
+use Rattle.rules.specs.declared.Row.{Row}
+use Rattle.rules.specs.declared.Role.{Role}
 use Rattle.rules.specs.Operands.{begun}
 use Rattle.rules.specs.Drawing.{lengthOf, withPen, Outcome, NotDrawn, Draw, apply, nextOperand, roleDue, applyBegun, withByte, takeByte, dataByte}
 use Rattle.rules.proofs.Bools.{false-true, pick-yes, pick-no}

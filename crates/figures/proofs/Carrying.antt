@@ -6,7 +6,8 @@ use Prim.Native.Nat.{ℕ, _+_, _*_, _≤_}
 use native.Mathlib.Nat.{add-zero, add-assoc}
 use native.Mathlib.Omega.{arith}
 use lib.ListN.{length, length-append}
-use Rattle.rules.specs.Types.{Drawing, Record}
+use Rattle.rules.specs.declared.Drawing.{Drawing}
+use Rattle.rules.specs.declared.Record.{Record}
 use Rattle.rules.specs.Record.{bytesOf, bytesOfAll}
 use Rattle.rules.specs.Drawing.{Outcome, NotDrawn, Draw, prepend, andThen}
 use Rattle.rules.proofs.RecordCount.{record-length, records-length, records-append, AtMost}

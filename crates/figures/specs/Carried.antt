@@ -4,7 +4,11 @@ use mathlib.Core.Bool.{Bool, true, false}
 use mathlib.Core.List.{List}
 use mathlib.Core.Path.{_≡_}
 use lib.ListN.{length}
-use Rattle.rules.specs.Types.{Point, Pen, Command, Look, Drawing}
+use Rattle.rules.specs.declared.Point.{Point}
+use Rattle.rules.specs.declared.Pen.{Pen}
+use Rattle.rules.specs.declared.Command.{Command}
+use Rattle.rules.specs.declared.Look.{Look}
+use Rattle.rules.specs.declared.Drawing.{Drawing}
 use Rattle.rules.specs.Record.{bytesOfAll}
 use Rattle.rules.specs.Drawing.{Outcome, NotDrawn, Draw}
 use Rattle.records.specs.Bytes.{overwrite}

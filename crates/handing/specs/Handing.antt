@@ -1,7 +1,8 @@
 -- What feed is lent and hands over, as the rules have it
 use Prim.Native.Nat.{ℕ}
 use mathlib.Core.List.{List}
-use Rattle.rules.specs.Types.{Answer, Session}
+use Rattle.rules.specs.declared.Answer.{Answer}
+use Rattle.rules.specs.declared.Session.{Session}
 use Rattle.rules.specs.Step.{stateLent}
 use Rattle.rules.specs.Calls.{Handed}
 use Rattle.handing.specs.declared.Fed.{Fed}

@@ -5,7 +5,12 @@ use mathlib.Core.List.{List}
 use Prim.Native.Nat.{ℕ, _+_}
 use native.Mathlib.Omega.{arith}
 use lib.ListN.{getD}
-use Rattle.rules.specs.Types.{Idle as Idle·action, Coding, Definition, Sets, Waiting, Nothing, Escape, Name, Body, BodyEscape}
+use Rattle.rules.specs.declared.Action.the-variants.{Idle as Idle·action}
+use Rattle.rules.specs.declared.Coding.{Coding}
+use Rattle.rules.specs.declared.Definition.{Definition}
+use Rattle.rules.specs.declared.Sets.{Sets}
+use Rattle.rules.specs.declared.Waiting.{Waiting}
+use Rattle.rules.specs.declared.Waiting.the-variants.{Nothing, Escape, Name, Body, BodyEscape}
 use Rattle.rules.specs.Numbers.{esc}
 use Rattle.rules.specs.Coding.{React, inBody, innerOf, inBodyEscape, finalOf, escape, controls, control, classOf, reactTo, react}
 use Rattle.macros.specs.Each.{none}

@@ -13,8 +13,12 @@ use denote.Enum.Declared.{tagOf}
 use Rattle.rules.proofs.Action.{the-type as the-action}
 use Rattle.rules.proofs.Bools.{true-false, false-true}
 use Rattle.rules.proofs.CodingRanges.{ReactionFits, react-fits}
-use Rattle.rules.specs.Types.{Action, Idle as Idle·action, Close, Control·action as Control, Character, Opcode, Data, Coding}
-use Rattle.rules.specs.Types.{Sets, Waiting, Body}
+use Rattle.rules.specs.declared.Action.{Action}
+use Rattle.rules.specs.declared.Action.the-variants.{Idle as Idle·action, Close, Control, Character, Opcode, Data}
+use Rattle.rules.specs.declared.Coding.{Coding}
+use Rattle.rules.specs.declared.Sets.{Sets}
+use Rattle.rules.specs.declared.Waiting.{Waiting}
+use Rattle.rules.specs.declared.Waiting.the-variants.{Body}
 use Rattle.rules.specs.Numbers.{esc}
 use Rattle.rules.specs.Coding.{React, keep, inBody, reactTo, react}
 use Rattle.rules.specs.Ranges.{waitingFits}

@@ -3,7 +3,9 @@ use Prim.Native.Nat.{ℕ}
 use mathlib.Core.Bool.{Bool, true, false}
 use mathlib.Core.List.{List}
 use mathlib.Core.Path.{_≡_}
-use Rattle.rules.specs.Types.{Action, Idle as Idle·action, Close, Control·action as Control, Character, Opcode, Data, Coding}
+use Rattle.rules.specs.declared.Action.{Action}
+use Rattle.rules.specs.declared.Action.the-variants.{Idle as Idle·action, Close, Control, Character, Opcode, Data}
+use Rattle.rules.specs.declared.Coding.{Coding}
 use Rattle.rules.specs.Coding.{React, react}
 use Rattle.macros.specs.Each.{Each}
 use Rattle.coding.specs.declared.reactions.Effect.{Effect}

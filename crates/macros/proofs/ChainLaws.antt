@@ -6,7 +6,8 @@ use Prim.Native.Nat.{ℕ, zero, suc, _-_, _<_, _≤_}
 use native.Mathlib.Nat.{not-suc-le-zero}
 use native.Mathlib.Numerals.{sub-one}
 use borrow.Author.Tests.{eq-eqb, ne-eqb}
-use Rattle.rules.specs.Types.{Ends, TooLong, OutOfRange}
+use Rattle.rules.specs.declared.Chain.the-variants.{Ends, TooLong}
+use Rattle.rules.specs.declared.Refusal.the-variants.{OutOfRange}
 use Rattle.rules.specs.Store.{nextOf, setNext, lastCell, NotFreed, Freed, freeTo, freeBody}
 
 -- The walk: no cell more to look at, the end of the chain, a cell further

@@ -7,7 +7,7 @@ use mathlib.Core.Bool.{true}
 use mathlib.Core.List.{List}
 use lib.ListN.{length}
 use borrow.Author.Tests.{ne-eqb, lt-ltb, le-leb}
-use Rattle.rules.specs.Types.{Cursor}
+use Rattle.rules.specs.declared.Cursor.{Cursor}
 use Rattle.rules.specs.Numbers.{storeSize, mostBytes}
 use Rattle.rules.specs.Store.{countOf, bodyByte, goodCount}
 use Rattle.rules.specs.Bodies.{hasLeft, readCell, readBody}

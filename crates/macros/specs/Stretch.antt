@@ -4,7 +4,8 @@ use mathlib.Core.Bool.{true}
 use mathlib.Core.List.{List}
 use mathlib.Core.Path.{_≡_}
 use lib.ListN.{getD}
-use Rattle.rules.specs.Types.{Cursor, Byte}
+use Rattle.rules.specs.declared.Cursor.{Cursor}
+use Rattle.rules.specs.declared.Read.the-variants.{Byte}
 use Rattle.rules.specs.Bodies.{hasLeft, readBody}
 
 -- So many bytes on in the cell

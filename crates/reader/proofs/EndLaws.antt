@@ -7,8 +7,14 @@ use mathlib.Core.List.{List}
 use lib.ListN.{length}
 use lib.Dec.{ltb, leb}
 use borrow.Author.Tests.{ne-eqb, lt-ltb, le-ltb, leb-true}
-use Rattle.rules.specs.Types.{Close, Refusal, TooManyVertices, EndInside, BodyBytesLeft, Session, Verdict, Passes, Fails}
-use Rattle.rules.specs.Types.{Ended, Stopped, Done, Full, Refused}
+use Rattle.rules.specs.declared.Action.the-variants.{Close}
+use Rattle.rules.specs.declared.Refusal.{Refusal}
+use Rattle.rules.specs.declared.Refusal.the-variants.{TooManyVertices, EndInside, BodyBytesLeft}
+use Rattle.rules.specs.declared.Session.{Session}
+use Rattle.rules.specs.declared.Verdict.{Verdict}
+use Rattle.rules.specs.declared.Verdict.the-variants.{Passes, Fails}
+use Rattle.rules.specs.declared.Status.the-variants.{Ended, Stopped}
+use Rattle.rules.specs.declared.Answer.the-variants.{Done, Full, Refused}
 use Rattle.rules.specs.Numbers.{mostDepth, roomForStep}
 use Rattle.rules.specs.Record.{bytesOfAll}
 use Rattle.rules.specs.Bodies.{bytesLeft}

@@ -8,7 +8,11 @@ use lib.Dec.{leb}
 use lib.ListN.{length, take, drop, length-drop, drop-of-length-le}
 use lib.Seq.{take-all}
 use borrow.Author.Tests.{leb-true, leb-false}
-use Rattle.rules.specs.Types.{Refusal, Session, Verdict, Passes, Fails, Refused}
+use Rattle.rules.specs.declared.Refusal.{Refusal}
+use Rattle.rules.specs.declared.Session.{Session}
+use Rattle.rules.specs.declared.Verdict.{Verdict}
+use Rattle.rules.specs.declared.Verdict.the-variants.{Passes, Fails}
+use Rattle.rules.specs.declared.Answer.the-variants.{Refused}
 use Rattle.rules.specs.Reading.{Room, reading, tests}
 use Rattle.rules.specs.Step.{State, stateLent}
 use Rattle.rules.specs.Calls.{handed, feed, unread}

@@ -1,7 +1,9 @@
 -- What end hands over, as the rules have it
 use Prim.Native.Nat.{ℕ}
 use mathlib.Core.List.{List}
-use Rattle.rules.specs.Types.{Drawing, Session, Status}
+use Rattle.rules.specs.declared.Drawing.{Drawing}
+use Rattle.rules.specs.declared.Session.{Session}
+use Rattle.rules.specs.declared.Status.{Status}
 use Rattle.rules.specs.Calls.{Handed}
 use Rattle.rules.specs.Step.{stateLent}
 use Rattle.reader.specs.declared.end.Ended.{Ended}

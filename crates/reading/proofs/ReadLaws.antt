@@ -6,8 +6,17 @@ use mathlib.Core.Path.{_≡_, refl, sym, ap, _∙_, subst}
 use mathlib.Core.Bool.{true, false}
 use mathlib.Core.List.{List}
 use lib.ListN.{length, drop}
-use Rattle.rules.specs.Types.{Action, Answer, Done, Full, Refused, Command, Drawing, Look, Pen, Point, TooManyVertices, Session}
-use Rattle.rules.specs.Types.{Status}
+use Rattle.rules.specs.declared.Action.{Action}
+use Rattle.rules.specs.declared.Answer.{Answer}
+use Rattle.rules.specs.declared.Answer.the-variants.{Done, Full, Refused}
+use Rattle.rules.specs.declared.Command.{Command}
+use Rattle.rules.specs.declared.Drawing.{Drawing}
+use Rattle.rules.specs.declared.Look.{Look}
+use Rattle.rules.specs.declared.Pen.{Pen}
+use Rattle.rules.specs.declared.Point.{Point}
+use Rattle.rules.specs.declared.Refusal.the-variants.{TooManyVertices}
+use Rattle.rules.specs.declared.Session.{Session}
+use Rattle.rules.specs.declared.Status.{Status}
 use Rattle.rules.specs.Numbers.{roomForStep}
 use Rattle.rules.specs.Step.{State, stateLent}
 use Rattle.rules.specs.Drawing.{noOperand, act}

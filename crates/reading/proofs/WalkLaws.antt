@@ -4,7 +4,7 @@ use native.Mathlib.Omega.{arith}
 use mathlib.Core.Path.{_≡_, _∙_, subst}
 use mathlib.Core.List.{List}
 use lib.ListN.{length, drop}
-use Rattle.rules.specs.Types.{Record}
+use Rattle.rules.specs.declared.Record.{Record}
 use Rattle.rules.specs.Reading.{Room}
 use Rattle.rules.specs.Step.{State, removeSpent, Source}
 use Rattle.rules.proofs.Readings.{reading-removed}

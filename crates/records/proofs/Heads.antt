@@ -4,7 +4,9 @@ use mathlib.Core.List.{List, [], _∷_, _++_}
 use Prim.Native.Nat.{ℕ, _+_, _*_, _/_, _%_, _≤_}
 use native.Mathlib.Omega.{arith}
 use lib.ListN.{set}
-use Rattle.rules.specs.Types.{Look, Point, Record}
+use Rattle.rules.specs.declared.Look.{Look}
+use Rattle.rules.specs.declared.Point.{Point}
+use Rattle.rules.specs.declared.Record.{Record}
 use Rattle.rules.specs.Record.{word, words, bytesOf, recordOf}
 use Rattle.records.specs.declared.Head.{Head}
 use Rattle.records.specs.Bytes.{headOf, headBytes}

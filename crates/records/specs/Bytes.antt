@@ -2,7 +2,7 @@
 use Prim.Native.Nat.{ℕ, _+_}
 use mathlib.Core.List.{List, [], _∷_, _++_}
 use lib.ListN.{length, take, drop}
-use Rattle.rules.specs.Types.{Record}
+use Rattle.rules.specs.declared.Record.{Record}
 use Rattle.rules.specs.Record.{word}
 use Rattle.records.specs.declared.Head.{Head}
 

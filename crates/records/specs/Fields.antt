@@ -1,5 +1,5 @@
 -- The mode and the colour bytes of a record
-use Rattle.rules.specs.Types.{Colour}
+use Rattle.rules.specs.declared.Colour.{Colour}
 use Rattle.rules.specs.Record.{modeNumber, colour0, colour1, colour2}
 use Rattle.records.specs.declared.Ink.{Ink}
 

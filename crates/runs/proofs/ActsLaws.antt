@@ -8,8 +8,17 @@ use mathlib.Core.List.{List}
 use lib.ListN.{getD}
 use lib.Dec.{ltb}
 use borrow.Author.Tests.{lt-ltb, le-ltb}
-use Rattle.rules.specs.Types.{Action, Control·action, Opcode, Data, Class, Column2, Above, Coding, Control, Ignored, Recorded}
-use Rattle.rules.specs.Types.{Set, Pdi, Waiting, Nothing}
+use Rattle.rules.specs.declared.Action.{Action}
+use Rattle.rules.specs.declared.Action.the-variants.{Control as Control·action, Opcode, Data}
+use Rattle.rules.specs.declared.Class.{Class}
+use Rattle.rules.specs.declared.Class.the-variants.{Column2, Above}
+use Rattle.rules.specs.declared.Coding.{Coding}
+use Rattle.rules.specs.declared.Control.{Control}
+use Rattle.rules.specs.declared.Control.the-variants.{Ignored, Recorded}
+use Rattle.rules.specs.declared.Set.{Set}
+use Rattle.rules.specs.declared.Set.the-variants.{Pdi}
+use Rattle.rules.specs.declared.Waiting.{Waiting}
+use Rattle.rules.specs.declared.Waiting.the-variants.{Nothing}
 use Rattle.rules.specs.Choice.{pick}
 use Rattle.rules.specs.Coding.{React, wait, setOf, controls, control, graphic, classOf, reactTo, react}
 use Rattle.rules.proofs.Bools.{pick-yes, pick-no}

@@ -9,7 +9,12 @@ use mathlib.Core.List.{List, [], _∷_, _++_, append-nil}
 use lib.ListN.{length, getD, set, take, drop, length-set, length-drop}
 use lib.Seq.{take-suc, take-suc-set, getD-drop, getD-take, length-take-le}
 use borrow.Author.Tests.{lt-ltb, le-ltb, ne-eqb}
-use Rattle.rules.specs.Types.{Data, Drawing, Operand, Record, Row, Pdi}
+use Rattle.rules.specs.declared.Action.the-variants.{Data}
+use Rattle.rules.specs.declared.Drawing.{Drawing}
+use Rattle.rules.specs.declared.Operand.{Operand}
+use Rattle.rules.specs.declared.Record.{Record}
+use Rattle.rules.specs.declared.Row.{Row}
+use Rattle.rules.specs.declared.Set.the-variants.{Pdi}
 use Rattle.rules.specs.Numbers.{roomForStep}
 use Rattle.rules.specs.Operands.{begun}
 use Rattle.rules.specs.Drawing.{rowOf, lengthOf, withOperand, Outcome, Draw, andThen, apply, nextOperand, roleDue, applyBegun, takeByte, dataByte, act}

@@ -7,7 +7,17 @@ use mathlib.Core.Bool.{Bool, true, false, not, _&&_}
 use mathlib.Core.List.{List, [], _∷_, _++_}
 use lib.ListN.{length, take, drop}
 use lib.Dec.{eqb}
-use Rattle.rules.specs.Types.{Command, First, Drawing, Look, Operand, A, Pen, Point, Record, Row, Pdi}
+use Rattle.rules.specs.declared.Command.{Command}
+use Rattle.rules.specs.declared.Due.the-variants.{First}
+use Rattle.rules.specs.declared.Drawing.{Drawing}
+use Rattle.rules.specs.declared.Look.{Look}
+use Rattle.rules.specs.declared.Operand.{Operand}
+use Rattle.rules.specs.declared.Pattern.the-variants.{A}
+use Rattle.rules.specs.declared.Pen.{Pen}
+use Rattle.rules.specs.declared.Point.{Point}
+use Rattle.rules.specs.declared.Record.{Record}
+use Rattle.rules.specs.declared.Row.{Row}
+use Rattle.rules.specs.declared.Set.the-variants.{Pdi}
 use Rattle.rules.specs.Numbers.{roomForStep, origin}
 use Rattle.rules.specs.Operands.{point}
 use Rattle.rules.specs.Record.{words, bytesOf, flags, recordOf, figure}

@@ -8,8 +8,16 @@ use native.Mathlib.Numerals.{add-one}
 use native.Mathlib.Omega.{arith}
 use lib.ListN.{length, getD, set}
 use borrow.Author.Tests.{ne-eqb}
-use Rattle.rules.specs.Types.{Character, Command, Drawing, Look, Pen, Point, Repertoire, Primary, Supplementary, Mosaic, Drcs}
-use Rattle.rules.specs.Types.{Set, Characters}
+use Rattle.rules.specs.declared.Action.the-variants.{Character}
+use Rattle.rules.specs.declared.Command.{Command}
+use Rattle.rules.specs.declared.Drawing.{Drawing}
+use Rattle.rules.specs.declared.Look.{Look}
+use Rattle.rules.specs.declared.Pen.{Pen}
+use Rattle.rules.specs.declared.Point.{Point}
+use Rattle.rules.specs.declared.Repertoire.{Repertoire}
+use Rattle.rules.specs.declared.Repertoire.the-variants.{Primary, Supplementary, Mosaic, Drcs}
+use Rattle.rules.specs.declared.Set.{Set}
+use Rattle.rules.specs.declared.Set.the-variants.{Characters}
 use Rattle.rules.specs.Numbers.{roomForStep, origin}
 use Rattle.rules.specs.Record.{words, bytesOf, setNumber, recordOf, mark}
 use Rattle.rules.specs.Coding.{React, character, graphic}

@@ -4,7 +4,15 @@ use mathlib.Core.Bool.{false}
 use mathlib.Core.List.{List}
 use mathlib.Core.Path.{_≡_}
 use lib.ListN.{length, getD}
-use Rattle.rules.specs.Types.{Action, Coding, Command, Drawing, Look, Pen, Record, Set, Nothing}
+use Rattle.rules.specs.declared.Action.{Action}
+use Rattle.rules.specs.declared.Coding.{Coding}
+use Rattle.rules.specs.declared.Command.{Command}
+use Rattle.rules.specs.declared.Drawing.{Drawing}
+use Rattle.rules.specs.declared.Look.{Look}
+use Rattle.rules.specs.declared.Pen.{Pen}
+use Rattle.rules.specs.declared.Record.{Record}
+use Rattle.rules.specs.declared.Set.{Set}
+use Rattle.rules.specs.declared.Waiting.the-variants.{Nothing}
 use Rattle.rules.specs.Numbers.{roomForStep}
 use Rattle.rules.specs.Coding.{React, setOf, react}
 use Rattle.rules.specs.Drawing.{Draw, act}

@@ -4,7 +4,13 @@ use mathlib.Core.Bool.{false}
 use mathlib.Core.List.{List}
 use mathlib.Core.Path.{_≡_}
 use lib.ListN.{length}
-use Rattle.rules.specs.Types.{Command, First, Look, A, Pen, Point, Pdi}
+use Rattle.rules.specs.declared.Command.{Command}
+use Rattle.rules.specs.declared.Due.the-variants.{First}
+use Rattle.rules.specs.declared.Look.{Look}
+use Rattle.rules.specs.declared.Pattern.the-variants.{A}
+use Rattle.rules.specs.declared.Pen.{Pen}
+use Rattle.rules.specs.declared.Point.{Point}
+use Rattle.rules.specs.declared.Set.the-variants.{Pdi}
 use Rattle.rules.specs.Numbers.{roomForStep}
 use Rattle.rules.specs.Drawing.{row, rowOf, noOperand}
 use Rattle.rules.specs.Record.{recordOf}

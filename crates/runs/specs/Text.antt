@@ -1,7 +1,12 @@
 -- Runs of characters
 use Prim.Native.Nat.{ℕ, zero, suc, _+_, _*_}
 use mathlib.Core.List.{List}
-use Rattle.rules.specs.Types.{Command, Look, Operand, Pen, Repertoire, Primary, Supplementary, Mosaic, Drcs}
+use Rattle.rules.specs.declared.Command.{Command}
+use Rattle.rules.specs.declared.Look.{Look}
+use Rattle.rules.specs.declared.Operand.{Operand}
+use Rattle.rules.specs.declared.Pen.{Pen}
+use Rattle.rules.specs.declared.Repertoire.{Repertoire}
+use Rattle.rules.specs.declared.Repertoire.the-variants.{Primary, Supplementary, Mosaic, Drcs}
 use Rattle.rules.specs.Numbers.{origin}
 use Rattle.rules.specs.Drawing.{noOperand, newCommand}
 use Rattle.figures.specs.Carried.{Carried}

@@ -7,7 +7,9 @@ use Prim.Native.Nat.{ℕ, _+_, _<_, _≤_}
 use native.Mathlib.Numerals.{add-one}
 use borrow.Author.Tests.{eq-eqb, ne-eqb, lt-ltb, le-ltb}
 use lib.Dec.{eqb}
-use Rattle.rules.specs.Types.{Definition, Refusal, StoreFull, OutOfRange}
+use Rattle.rules.specs.declared.Definition.{Definition}
+use Rattle.rules.specs.declared.Refusal.{Refusal}
+use Rattle.rules.specs.declared.Refusal.the-variants.{StoreFull, OutOfRange}
 use Rattle.rules.specs.Store.{nextOf, setNext, countOf, setCount, goodCount, setBodyByte, setFirst, Filling, NotStored, Stored, takeCell, linkCell, storeInNew, storeInLast, storeByte}
 use Rattle.rules.proofs.CodingRanges.{StoringKeeps, store-keeps}
 use Rattle.storing.specs.Storing.{fillingOf, storingOf, KeptIfRefused}

@@ -2,7 +2,7 @@
 use Prim.Native.Nat.{ℕ, _-_}
 use mathlib.Core.List.{List}
 use lib.Dec.{ltb, eqb}
-use Rattle.rules.specs.Types.{StoreFull, OutOfRange}
+use Rattle.rules.specs.declared.Refusal.the-variants.{StoreFull, OutOfRange}
 use Rattle.rules.specs.Numbers.{mostBytes}
 use Rattle.rules.specs.Choice.{pick}
 use Rattle.rules.specs.Store.{nextOf, countOf, goodCount}

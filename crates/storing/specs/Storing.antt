@@ -2,7 +2,7 @@
 use Prim.Native.Nat.{ℕ}
 use mathlib.Core.List.{List}
 use mathlib.Core.Path.{_≡_}
-use Rattle.rules.specs.Types.{Definition}
+use Rattle.rules.specs.declared.Definition.{Definition}
 use Rattle.rules.specs.Store.{Filling, Storing, NotStored, Stored}
 use Rattle.storing.specs.declared.definitions.StoreAnswer.{StoreAnswer}
 use Rattle.storing.specs.declared.definitions.StoreAnswer.the-variants.{Done, Refused}

@@ -10,7 +10,10 @@ use lib.ListN.{getD, take, drop, replicate, getD-replicate}
 use lib.Seq.{getD-take}
 use lib.Dec.{ltb}
 use borrow.Author.Tests.{lt-ltb, le-ltb, ltb-true}
-use Rattle.rules.specs.Types.{Class, Below, Column2, Above, Control, Ignored, Recorded}
+use Rattle.rules.specs.declared.Class.{Class}
+use Rattle.rules.specs.declared.Class.the-variants.{Below, Column2, Above}
+use Rattle.rules.specs.declared.Control.{Control}
+use Rattle.rules.specs.declared.Control.the-variants.{Ignored, Recorded}
 use Rattle.rules.specs.Coding.{controls, classOf}
 use Rattle.rules.proofs.Bools.{true-false, by-test, pick-yes, pick-no, pick-all}
 

@@ -9,12 +9,14 @@ use denote.Enum.Declared.{tagOf}
 use Rattle.rules.proofs.Pattern.{the-type as the-pattern}
 use Rattle.rules.proofs.Role.{the-type as the-role}
 use Rattle.rules.proofs.Waiting.{the-type as the-waiting}
-use Rattle.rules.specs.Types.{Due, Domain}
-use Rattle.rules.specs.Types.{Pattern, A, D, AA, AD, ArcDD, ArcADD, PolygonD, PolygonAD, Domain·pattern, SelectColour, SetColour}
-use Rattle.rules.specs.Types.{Skipped}
-use Rattle.rules.specs.Types.{Role, MoveTo, DrawTo, DrawBy, Middle, ArcEnd, Start, Edge, Lengths, Pel, Foreground, Background}
-use Rattle.rules.specs.Types.{Shade·role as Shade, Dropped}
-use Rattle.rules.specs.Types.{Waiting, Nothing, Shifted, Escape, Designator, Longer, Name, Body, BodyEscape}
+use Rattle.rules.specs.declared.Due.{Due}
+use Rattle.rules.specs.declared.Domain.{Domain}
+use Rattle.rules.specs.declared.Pattern.{Pattern}
+use Rattle.rules.specs.declared.Pattern.the-variants.{A, D, AA, AD, ArcDD, ArcADD, PolygonD, PolygonAD, Domain as Domain·pattern, SelectColour, SetColour, Skipped}
+use Rattle.rules.specs.declared.Role.{Role}
+use Rattle.rules.specs.declared.Role.the-variants.{MoveTo, DrawTo, DrawBy, Middle, ArcEnd, Start, Edge, Lengths, Pel, Foreground, Background, Shade, Dropped}
+use Rattle.rules.specs.declared.Waiting.{Waiting}
+use Rattle.rules.specs.declared.Waiting.the-variants.{Nothing, Shifted, Escape, Designator, Longer, Name, Body, BodyEscape}
 use Rattle.rules.specs.Coding.{afterEscape, unfinished}
 use Rattle.rules.specs.Drawing.{advanced, dueAfter, lengthOf}
 

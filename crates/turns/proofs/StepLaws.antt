@@ -9,8 +9,22 @@ use mathlib.Core.Logic.{_⊎_, inl, inr}
 use lib.ListN.{set}
 use lib.Dec.{eqb}
 use borrow.Author.Tests.{lt-ltb, le-ltb}
-use Rattle.rules.specs.Types.{Action, Idle, Bodies, Coding, Command, Cursor, Drawing, Look, Pen}
-use Rattle.rules.specs.Types.{Refusal, DefinitionInBody, TooDeep, TooManyVertices, Answer, Refused, Sets, Running, Waiting}
+use Rattle.rules.specs.declared.Action.{Action}
+use Rattle.rules.specs.declared.Action.the-variants.{Idle}
+use Rattle.rules.specs.declared.Bodies.{Bodies}
+use Rattle.rules.specs.declared.Coding.{Coding}
+use Rattle.rules.specs.declared.Command.{Command}
+use Rattle.rules.specs.declared.Cursor.{Cursor}
+use Rattle.rules.specs.declared.Drawing.{Drawing}
+use Rattle.rules.specs.declared.Look.{Look}
+use Rattle.rules.specs.declared.Pen.{Pen}
+use Rattle.rules.specs.declared.Refusal.{Refusal}
+use Rattle.rules.specs.declared.Refusal.the-variants.{DefinitionInBody, TooDeep, TooManyVertices}
+use Rattle.rules.specs.declared.Answer.{Answer}
+use Rattle.rules.specs.declared.Answer.the-variants.{Refused}
+use Rattle.rules.specs.declared.Sets.{Sets}
+use Rattle.rules.specs.declared.Status.the-variants.{Running}
+use Rattle.rules.specs.declared.Waiting.{Waiting}
 use Rattle.rules.specs.Numbers.{mostDepth, roomForStep}
 use Rattle.rules.specs.Store.{firstOf}
 use Rattle.rules.specs.Coding.{Reaction, Refuse, Call, React, react, afterEscape}

@@ -10,7 +10,14 @@ use lib.ListN.{length, drop, getD, drop-of-length-le}
 use lib.Seq.{drop-cons, getD-drop}
 use lib.Dec.{ltb, leb}
 use borrow.Author.Tests.{lt-ltb, le-ltb, leb-true, leb-false, eqb-true}
-use Rattle.rules.specs.Types.{Action, Done, Full, Refused, Bodies, Cursor, Drawing, Read, Byte, BadCell, BudgetUsed, OutOfRange}
+use Rattle.rules.specs.declared.Action.{Action}
+use Rattle.rules.specs.declared.Answer.the-variants.{Done, Full, Refused}
+use Rattle.rules.specs.declared.Bodies.{Bodies}
+use Rattle.rules.specs.declared.Cursor.{Cursor}
+use Rattle.rules.specs.declared.Drawing.{Drawing}
+use Rattle.rules.specs.declared.Read.{Read}
+use Rattle.rules.specs.declared.Read.the-variants.{Byte, BadCell}
+use Rattle.rules.specs.declared.Refusal.the-variants.{BudgetUsed, OutOfRange}
 use Rattle.rules.specs.Numbers.{storeSize, mostDepth, roomForStep}
 use Rattle.rules.specs.Bodies.{bodyAt, withBody, readBody, depthLeft, unspent}
 use Rattle.rules.specs.Ranges.{placesFit, bodiesFit, waitingFits}

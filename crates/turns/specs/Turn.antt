@@ -4,8 +4,16 @@ use mathlib.Core.Bool.{Bool, true, false}
 use mathlib.Core.List.{List, [], _∷_}
 use lib.ListN.{length, getD}
 use lib.Dec.{ltb}
-use Rattle.rules.specs.Types.{Bodies, Cursor, Read, Byte, Record, Refusal, BudgetUsed, OutOfRange, Stopped}
-use Rattle.rules.specs.Types.{Answer, Done, Full, Refused}
+use Rattle.rules.specs.declared.Bodies.{Bodies}
+use Rattle.rules.specs.declared.Cursor.{Cursor}
+use Rattle.rules.specs.declared.Read.{Read}
+use Rattle.rules.specs.declared.Read.the-variants.{Byte}
+use Rattle.rules.specs.declared.Record.{Record}
+use Rattle.rules.specs.declared.Refusal.{Refusal}
+use Rattle.rules.specs.declared.Refusal.the-variants.{BudgetUsed, OutOfRange}
+use Rattle.rules.specs.declared.Status.the-variants.{Stopped}
+use Rattle.rules.specs.declared.Answer.{Answer}
+use Rattle.rules.specs.declared.Answer.the-variants.{Done, Full, Refused}
 use Rattle.rules.specs.Numbers.{roomForStep}
 use Rattle.rules.specs.Bodies.{bodyAt, withBody, readBody}
 use Rattle.rules.specs.Record.{bytesOfAll}

@@ -3,8 +3,17 @@ use Prim.Native.Nat.{ℕ, _+_, _≤_, _<_}
 use mathlib.Core.Bool.{Bool, true, false}
 use mathlib.Core.Path.{_≡_}
 use mathlib.Core.List.{List}
-use Rattle.rules.specs.Types.{Bodies, Coding, Cursor, Drawing, Sets, Waiting, Session, Status, Running, Stopped}
-use Rattle.rules.specs.Types.{Answer, Done, Full, Refused}
+use Rattle.rules.specs.declared.Bodies.{Bodies}
+use Rattle.rules.specs.declared.Coding.{Coding}
+use Rattle.rules.specs.declared.Cursor.{Cursor}
+use Rattle.rules.specs.declared.Drawing.{Drawing}
+use Rattle.rules.specs.declared.Sets.{Sets}
+use Rattle.rules.specs.declared.Waiting.{Waiting}
+use Rattle.rules.specs.declared.Session.{Session}
+use Rattle.rules.specs.declared.Status.{Status}
+use Rattle.rules.specs.declared.Status.the-variants.{Running, Stopped}
+use Rattle.rules.specs.declared.Answer.{Answer}
+use Rattle.rules.specs.declared.Answer.the-variants.{Done, Full, Refused}
 use Rattle.rules.specs.Numbers.{roomForStep}
 use Rattle.rules.specs.Drawing.{act}
 use Rattle.rules.specs.Step.{State, stateOf, withStatus, onOutcome}

@@ -1,7 +1,10 @@
 -- The tests before a feed or an end, by their outcomes
 use mathlib.Core.Path.{_≡_, refl, _∙_}
 use mathlib.Core.Bool.{Bool, true, false, _&&_}
-use Rattle.rules.specs.Types.{Session, Status, Running, Ended, Stopped, Verdict}
+use Rattle.rules.specs.declared.Session.{Session}
+use Rattle.rules.specs.declared.Status.{Status}
+use Rattle.rules.specs.declared.Status.the-variants.{Running, Ended, Stopped}
+use Rattle.rules.specs.declared.Verdict.{Verdict}
 use Rattle.rules.specs.Ranges.{bodiesFit, waitingFits, drawingFits, fits}
 use Rattle.rules.specs.Reading.{verdict}
 use Rattle.verdict.specs.Order.{inOrder}

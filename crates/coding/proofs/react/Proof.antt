@@ -1,5 +1,5 @@
 use mathlib.Core.Path.{refl, _∙_}
-use Rattle.rules.specs.Types.{Escape, Designator, Longer, Name, Body, BodyEscape}
+use Rattle.rules.specs.declared.Waiting.the-variants.{Escape, Designator, Longer, Name, Body, BodyEscape}
 use Rattle.rules.specs.Coding.{reactTo}
 use Rattle.rules.specs.Ranges.{waitingFits}
 use Rattle.coding.proofs.Answers.{unchanged}

@@ -5,7 +5,8 @@ use mathlib.Core.List.{List}
 use Prim.Native.Nat.{ℕ, _+_, _-_, _≤_}
 use lib.ListN.{length}
 use borrow.Author.Tests.{not-false}
-use Rattle.rules.specs.Types.{Command, Look}
+use Rattle.rules.specs.declared.Command.{Command}
+use Rattle.rules.specs.declared.Look.{Look}
 use Rattle.rules.specs.Drawing.{rowOf}
 use Rattle.runs.specs.Run.{standing}
 use Rattle.runs.specs.Strokes.{penAfter}

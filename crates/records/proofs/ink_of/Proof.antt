@@ -1,4 +1,4 @@
-use Rattle.rules.specs.Types.{Direct, Mapped, TwoColour}
+use Rattle.rules.specs.declared.Mode.the-variants.{Direct, Mapped, TwoColour}
 use Rattle.rules.specs.Record.{colour0, colour1, colour2}
 use Rattle.records.proofs.Fields.{inked}
 use borrow.Author.Needs.{needs}

@@ -5,7 +5,7 @@ use mathlib.Core.List.{List, []}
 use Prim.Native.Nat.{ℕ}
 use lib.ListN.{length}
 use borrow.Author.Tests.{not-false}
-use Rattle.rules.specs.Types.{Pdi}
+use Rattle.rules.specs.declared.Set.the-variants.{Pdi}
 use Rattle.runs.specs.declared.strokes.Lined.{Lined}
 use Rattle.runs.specs.Strokes.{penAfter}
 use Rattle.advance.proofs.ProgressLaws.{walk-run, run-still, pen-none, run-most, none-walk, none-most}

@@ -1,5 +1,5 @@
 use borrow.Author.Tests.{eq-eqb, ne-eqb}
-use Rattle.rules.specs.Types.{Body}
+use Rattle.rules.specs.declared.Waiting.the-variants.{Body}
 use Rattle.rules.specs.Coding.{inBody}
 use Rattle.coding.proofs.Answers.{unchanged}
 use Rattle.coding.proofs.DefinitionLaws.{kept}

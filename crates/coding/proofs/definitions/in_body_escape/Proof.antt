@@ -1,4 +1,4 @@
-use Rattle.rules.specs.Types.{Body, BodyEscape}
+use Rattle.rules.specs.declared.Waiting.the-variants.{Body, BodyEscape}
 use Rattle.rules.specs.Coding.{inBodyEscape}
 use Rattle.coding.proofs.Answers.{unchanged}
 use Rattle.coding.proofs.DefinitionLaws.{kept}

@@ -1,6 +1,6 @@
 use mathlib.Core.Path.{refl, _∙_}
 use denote.Ref.{now}
-use Rattle.rules.specs.Types.{Name}
+use Rattle.rules.specs.declared.Waiting.the-variants.{Name}
 use Rattle.coding.specs.View.{codingOf}
 use Rattle.coding.proofs.Answers.{kept-as-lent}
 use Rattle.coding.proofs.DefinitionLaws.{open-refused, open-freed, refused-kept}

@@ -1,7 +1,7 @@
 use borrow.Author.Needs.{needs}
 use native.Mathlib.Omega.{arith}
 use mathlib.Core.Path.{sym, ap, _∙_}
-use Rattle.rules.specs.Types.{Command}
+use Rattle.rules.specs.declared.Command.{Command}
 use Rattle.rules.specs.Drawing.{rowOf}
 use Rattle.commands.proofs.FinishLaws.{closed, next-control, next-marked, next-plain}
 use Rattle.commands.proofs.CommandLaws.{row-control}

@@ -1,6 +1,6 @@
 use mathlib.Core.Path.{refl, ap}
 use native.Mathlib.Nat.{le-add-right}
-use Rattle.rules.specs.Types.{Command}
+use Rattle.rules.specs.declared.Command.{Command}
 use mathlib.Core.Path.{_∙_}
 use Rattle.commands.proofs.TraceLaws.{wrote-none, by-rule, apply-move, apply-start, apply-middle, apply-arc, apply-edge, apply-stroke, edge-aim, edge-strays, edge-room}
 use borrow.Author.Needs.{needs}

@@ -1,4 +1,4 @@
-use Rattle.rules.specs.Types.{Close}
+use Rattle.rules.specs.declared.Action.the-variants.{Close}
 use Rattle.drawing.proofs.Refusals.{act-vertices}
 use Rattle.reader.proofs.EndLaws.{stopped-so, ended-so}
 use borrow.Author.Needs.{needs}

@@ -1,6 +1,6 @@
 use mathlib.Core.Path.{refl}
 use native.Mathlib.Omega.{arith}
-use Rattle.rules.specs.Types.{Ignored, Recorded}
+use Rattle.rules.specs.declared.Control.the-variants.{Ignored, Recorded}
 use Rattle.rules.specs.Coding.{controls, classOf}
 use Rattle.tables.proofs.Classes.{below, past, column-2, above}
 use Rattle.tables.proofs.controls.class_of.Statement.{statement}

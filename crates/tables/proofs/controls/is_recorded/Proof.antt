@@ -1,6 +1,6 @@
 use mathlib.Core.Path.{_∙_, sym, ap}
 use borrow.Author.Needs.{needs}
-use Rattle.rules.specs.Types.{Below}
+use Rattle.rules.specs.declared.Class.the-variants.{Below}
 use Rattle.rules.proofs.Bools.{false-true}
 use Rattle.tables.proofs.Classes.{recorded}
 use Rattle.tables.proofs.controls.is_recorded.Statement.{statement}

@@ -1,6 +1,6 @@
 use Prim.Native.Nat.{_-_}
 use borrow.Author.Needs.{needs}
-use Rattle.rules.specs.Types.{Longer}
+use Rattle.rules.specs.declared.Waiting.the-variants.{Longer}
 use Rattle.rules.specs.Coding.{designators, designatorOf}
 use Rattle.rules.proofs.Tables.{at, before, past}
 use Rattle.tables.proofs.escapes.designator_of.Statement.{statement}

@@ -4,7 +4,9 @@ use Prim.Native.Nat.{ℕ}
 use lib.Dec.{eqb}
 use borrow.Author.Needs.{needs}
 use borrow.Author.Tests.{ne-eqb}
-use Rattle.rules.specs.Types.{Repertoire, Primary, Supplementary, Mosaic, Drcs, Character}
+use Rattle.rules.specs.declared.Repertoire.{Repertoire}
+use Rattle.rules.specs.declared.Repertoire.the-variants.{Primary, Supplementary, Mosaic, Drcs}
+use Rattle.rules.specs.declared.Action.the-variants.{Character}
 use Rattle.rules.specs.Coding.{character}
 use Rattle.tables.proofs.sets.character.Statement.{statement}
 use Rattle.tables.proofs.sets.character.Tie as tie
