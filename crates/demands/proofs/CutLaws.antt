@@ -1,6 +1,6 @@
 -- One feed call more after a list of them, and what the list then comes to
 use Prim.Native.Nat.{ℕ, zero, suc, _+_, _-_, _≤_, _<_, min}
-use native.Mathlib.Nat.{zero-add, add-zero, zero-min, min-zero, suc-min-suc}
+use native.Mathlib.Nat.{add-zero, zero-min, min-zero, suc-min-suc}
 use native.Mathlib.Numerals.{add-one}
 use native.Mathlib.Omega.{arith}
 use mathlib.Core.Path.{_≡_, refl, sym, ap, ap₂, _∙_, subst}
@@ -11,7 +11,7 @@ use Rattle.rules.specs.declared.Answer.the-variants.{Done, Full}
 use Rattle.rules.specs.Step.{State, removeSpent, NothingLeft, seek, Some, stateLent}
 use Rattle.rules.specs.Reading.{Reading, Room, Steps, rests, readTo, undivided}
 use Rattle.rules.specs.Calls.{freshState, Handed, handed, feed, unread, Lent, returned, join, feeds, lentBytes}
-use Rattle.rules.proofs.Cutting.{cutting, returned-handed, fresh-no-steps}
+use Rattle.rules.proofs.Cutting.{join-rests, returned-handed, cutting, fresh-no-steps}
 use Rattle.rules.proofs.CallLaws.{feed-kept}
 use Rattle.rules.proofs.Feeding.{lent-last, feeds-last}
 use Rattle.handing.specs.declared.Fed.{Fed}
@@ -163,14 +163,11 @@ come-first w page out lent edge =
       first = c;
       others = [];
       bytes = refl;
-      same = fed-join (rests Done w) page out lent edge (omega arith) ∙ ap (λ (z : Reading). handed z out) (none (returned (feed w (c .further) (c .buffer))));
+      same = fed-join (rests Done w) page out lent edge (omega arith) ∙ ap (λ (z : Reading). handed z out) (join-rests Done w (returned (feed w (c .further) (c .buffer))));
     }
   where
     c : Lent
     c = record { further = take lent page; buffer = take (edge - 0) out }
-
-    none : (z : Reading) → join (rests Done w) z ≡ z
-    none z i = record { answer = z .answer; state = z .state; consumed = zero-add (z .consumed) i; records = z .records }
 
 -- After one more
 come-more : (w : State) (page out : List ℕ) (lent next edge : ℕ) (h : Handed) → h .consumed ≤ lent → lent ≤ next → lent ≤ length page
@@ -210,15 +207,15 @@ come-undivided w page out lent h t m =
           t .same ∙ ap (λ (z : Reading). handed z out) (c .notFull (λ f. n (a ∙ f)))
           ∙ ap (λ (z : List ℕ). handed (undivided w z) out) (t .bytes);
       full = λ f.
-          t .same ∙ ap (λ (z : Reading). handed z out) (c .full (sym a ∙ f) .same)
+          t .same ∙ ap (λ (z : Reading). handed z out) (c .full (sym a ∙ f))
           ∙ ap (λ (z : List ℕ). handed (readTo (Steps (x .state .session .steps - w .session .steps)) w z) out) (t .bytes)
           ∙ ap (λ (k : ℕ). handed (readTo (Steps (k - w .session .steps)) w (take lent page)) out) (sym s);
       removed = λ f.
-          subst (λ (g : Handed). removeSpent (g .state) ≡ g .state) (sym (t .same)) (c .full (sym a ∙ f) .waits .removed);
+          subst (λ (g : Handed). removeSpent (g .state) ≡ g .state) (sym (t .same)) (c .waits (sym a ∙ f) .removed);
       left = λ f.
           subst (λ (g : Handed). seek (g .state) (drop (g .consumed) (take lent page)) ≡ NothingLeft → ⊥) (sym (t .same))
           (subst (λ (z : List ℕ). seek (x .state) (drop (x .consumed) z) ≡ NothingLeft → ⊥) (t .bytes)
-          (λ q. subst Some q (c .full (sym a ∙ f) .waits .left)));
+          (λ q. subst Some q (c .waits (sym a ∙ f) .left)));
       within = m;
     }
 

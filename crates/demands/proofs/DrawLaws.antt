@@ -20,7 +20,7 @@ use Rattle.rules.specs.Coding.{unfinished}
 use Rattle.rules.specs.Drawing.{isOpen}
 use Rattle.rules.specs.Ranges.{fits}
 use Rattle.rules.specs.Step.{State, stateLent}
-use Rattle.rules.specs.Reading.{Reading, Always, verdict, tests, undivided}
+use Rattle.rules.specs.Reading.{Reading, Always, verdict, tests, undivided, NotRefused}
 use Rattle.rules.specs.Calls.{Opening, freshState, openAs, openPage, Handed, handed, ending, endChecks, end}
 use Rattle.rules.specs.Expansion.{expansion, readPage, endPage, allRecords, SameState}
 use Rattle.rules.proofs.Readings.{full-done, refused-done, refused-full, reads-failed}
@@ -33,7 +33,7 @@ use Rattle.reader.specs.declared.open.Opened.{Opened}
 use Rattle.reader.specs.declared.end.Ended.{Ended}
 use Rattle.reader.specs.Promises.{Opens, Ends}
 use Rattle.demands.specs.Cuts.{lentOf, fedCuts, Undivided}
-use Rattle.demands.specs.Pictures.{endMore, endAfter, endDone, drawnCuts, NotRefused, Draws, DrawnAlike}
+use Rattle.demands.specs.Pictures.{endMore, endAfter, endDone, drawnCuts, Draws, DrawnAlike}
 
 -- Of end's promise, at the rest of the output
 

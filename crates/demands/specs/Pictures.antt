@@ -3,10 +3,10 @@ use Prim.Native.Nat.{ℕ, _+_, _≤_}
 use mathlib.Core.Path.{_≡_}
 use mathlib.Core.List.{List, _++_}
 use lib.ListN.{length, take, drop}
-use Rattle.rules.specs.declared.Refusal.{Refusal}
 use Rattle.rules.specs.declared.Answer.{Answer}
 use Rattle.rules.specs.declared.Answer.the-variants.{Done, Full, Refused}
 use Rattle.rules.specs.Numbers.{storeSize}
+use Rattle.rules.specs.Reading.{NotRefused}
 use Rattle.rules.specs.Calls.{openPage, Handed, end}
 use Rattle.rules.specs.Expansion.{expansion, endPage, Accepted, allRecords, SameState}
 use Rattle.demands.specs.Cuts.{fedCuts}
@@ -38,9 +38,6 @@ drawnCuts budget store page lengths rooms out = endDone (fedCuts (openPage budge
 
 abbrev pub recordsOf : Handed → List ℕ
 recordsOf h = take (h .written) (h .output)
-
-abbrev pub NotRefused : Answer → Type 0
-NotRefused a = (r : Refusal) → a ≡ Refused r → ⊥
 
 -- What the calls came to, lent a store to open and these bytes in all, in an output that was out: where all answered done, the page
 -- is accepted, and records and state are those of the page as one piece; where the page is accepted, none is refused

@@ -19,14 +19,14 @@ use Rattle.rules.specs.Numbers.{mostDepth, roomForStep}
 use Rattle.rules.specs.Record.{bytesOfAll}
 use Rattle.rules.specs.Bodies.{bytesLeft}
 use Rattle.rules.specs.Coding.{unfinished}
-use Rattle.rules.specs.Drawing.{Outcome, NotDrawn, Draw, act, isOpen}
+use Rattle.rules.specs.Drawing.{Outcome, NotDrawn, Draw, act, isOpen, closed}
 use Rattle.rules.specs.Step.{State, stateLent}
 use Rattle.rules.specs.Ranges.{placesFit, bodiesFit}
-use Rattle.rules.specs.Reading.{Reading, rests, halts, tests}
+use Rattle.rules.specs.Reading.{Reading, rests, halts, tests, Valid}
 use Rattle.rules.specs.Calls.{handed, ended, endChecks, ending, end}
 use Rattle.rules.proofs.Bools.{true-false, false-true, and-left}
-use Rattle.rules.proofs.RecordCount.{closed, closed-close}
-use Rattle.rules.proofs.Steps.{Valid, tests-valid, valid-tests}
+use Rattle.rules.proofs.RecordCount.{closed-close}
+use Rattle.rules.proofs.Steps.{tests-valid, valid-tests}
 use Rattle.records.proofs.Writes.{overwrite-start}
 use Rattle.figures.specs.declared.Drawn.{Drawn}
 use Rattle.figures.specs.Carried.{Carried, carry, drawingOf, carriedOf}

@@ -13,10 +13,10 @@ use Rattle.rules.specs.declared.Session.{Session}
 use Rattle.rules.specs.declared.Verdict.{Verdict}
 use Rattle.rules.specs.declared.Verdict.the-variants.{Passes, Fails}
 use Rattle.rules.specs.declared.Answer.the-variants.{Refused}
-use Rattle.rules.specs.Reading.{Room, reading, tests}
+use Rattle.rules.specs.Reading.{Room, reading, tests, Valid}
 use Rattle.rules.specs.Step.{State, stateLent}
 use Rattle.rules.specs.Calls.{handed, feed, unread}
-use Rattle.rules.proofs.Steps.{Valid, tests-valid}
+use Rattle.rules.proofs.Steps.{tests-valid}
 use Rattle.rules.proofs.Readings.{reads-failed, reads-passed}
 use Rattle.handing.specs.declared.Fed.{Fed}
 use Rattle.handing.specs.Handing.{handedOf}

@@ -21,12 +21,11 @@ ghost use Prim.Native.Nat.{ℕ, _≤_};
 ghost use lib.ListN.{length};
 ghost use mathlib.Core.Bool.{true};
 ghost use Rattle.rules.specs.Numbers.{roomForStep};
-ghost use Rattle.rules.specs.Drawing.{act};
+ghost use Rattle.rules.specs.Drawing.{act, closed};
 ghost use Rattle.rules.specs.Ranges.{drawingFits};
 ghost use Rattle.rules.specs.Calls.{handed, ended, ending};
-ghost use Rattle.rules.proofs.RecordCount.{closed};
-ghost use Rattle.rules.proofs.Steps.{Valid};
 ghost use Rattle.rules.specs.Step.{stateLent};
+ghost use Rattle.rules.specs.Reading.{Valid};
 ghost use Rattle.reader.specs.Ending.{endingOf, sessionWith};
 ghost use Rattle.reader.specs.Promises.{Ends};
 

@@ -20,9 +20,8 @@ use Rattle.rules.specs.declared.Status.{Status}
 use Rattle.rules.specs.Numbers.{roomForStep}
 use Rattle.rules.specs.Step.{State, stateLent}
 use Rattle.rules.specs.Drawing.{noOperand, act}
-use Rattle.rules.specs.Reading.{Room, reading}
+use Rattle.rules.specs.Reading.{Room, reading, Valid}
 use Rattle.rules.specs.Calls.{handed}
-use Rattle.rules.proofs.Steps.{Valid}
 use Rattle.figures.specs.declared.Drawn.{Drawn}
 use Rattle.figures.specs.Carried.{carry, drawingOf, carriedOf}
 use Rattle.bodies.specs.Stack.{bodiesOf}

@@ -11,9 +11,9 @@ use Rattle.rules.specs.declared.Record.{Record}
 use Rattle.rules.specs.Numbers.{roomForStep}
 use Rattle.rules.specs.Record.{bytesOfAll}
 use Rattle.rules.specs.Step.{State, removeSpent, Source, FromBody, FromPiece, Sought, NothingLeft, Spoilt, Found, seek, Move, Stops, Goes, interpret}
-use Rattle.rules.specs.Reading.{Room, rests, consumedBy, stepThen, reading}
+use Rattle.rules.specs.Reading.{Room, rests, consumedBy, stepThen, reading, Valid}
 use Rattle.rules.proofs.RecordCount.{records-length}
-use Rattle.rules.proofs.Steps.{Valid, Later, later-then, remove-later, step-later, step-most, seek-rest}
+use Rattle.rules.proofs.Steps.{Later, later-then, remove-later, step-later, step-most, seek-rest}
 use Rattle.rules.proofs.Readings.{budget, spoilt, refused, reads-done, reads-full, reads-halt, reads-step}
 use Rattle.turns.specs.Turn.{Turn, Ends, Steps, onMove, onSought, turn}
 

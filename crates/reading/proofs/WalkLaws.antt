@@ -5,10 +5,10 @@ use mathlib.Core.Path.{_≡_, _∙_, subst}
 use mathlib.Core.List.{List}
 use lib.ListN.{length, drop}
 use Rattle.rules.specs.declared.Record.{Record}
-use Rattle.rules.specs.Reading.{Room}
+use Rattle.rules.specs.Reading.{Room, Valid}
 use Rattle.rules.specs.Step.{State, removeSpent, Source}
 use Rattle.rules.proofs.Readings.{reading-removed}
-use Rattle.rules.proofs.Steps.{Valid, remove-later}
+use Rattle.rules.proofs.Steps.{remove-later}
 use Rattle.turns.specs.Turn.{Steps, turn}
 use Rattle.advance.specs.Walk.{Place, budgetLeft, Walk, none, removed, step}
 use Rattle.reading.proofs.Turns.{Advance, Follows, turn-follows}

@@ -11,9 +11,8 @@ use Rattle.rules.specs.declared.Answer.{Answer}
 use Rattle.rules.specs.declared.Record.{Record}
 use Rattle.rules.specs.Record.{bytesOfAll}
 use Rattle.rules.specs.Step.{State, Source, FromBody, FromPiece}
-use Rattle.rules.specs.Reading.{Reading, Room, rests, consumedBy, stepThen, reading}
+use Rattle.rules.specs.Reading.{Reading, Room, rests, consumedBy, stepThen, reading, Valid}
 use Rattle.rules.specs.Calls.{handed}
-use Rattle.rules.proofs.Steps.{Valid}
 use Rattle.records.specs.Bytes.{overwrite}
 use Rattle.records.proofs.Writes.{overwrite-length}
 use Rattle.turns.specs.declared.step.Course.{Course}

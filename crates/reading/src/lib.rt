@@ -18,9 +18,8 @@ use turns::turn::turn;
 ghost use mathlib.Core.Path.{_≡_};
 ghost use Prim.Native.Nat.{_-_};
 ghost use lib.ListN.{length};
-ghost use Rattle.rules.specs.Reading.{Room, reading};
+ghost use Rattle.rules.specs.Reading.{Room, reading, Valid};
 ghost use Rattle.rules.specs.Calls.{handed};
-ghost use Rattle.rules.proofs.Steps.{Valid};
 ghost use Rattle.rules.specs.Step.{stateLent};
 ghost use Rattle.handing.specs.Handing.{handedOf};
 

@@ -10,10 +10,10 @@ use borrow.Author.Tests.{ltb-true}
 use Rattle.rules.specs.Types.{Record, Refusal, Answer, Done, Full, Refused, Verdict, Passes, Fails}
 use Rattle.rules.specs.Numbers.{roomForStep}
 use Rattle.rules.specs.Step.{State, removeSpent, Source, NothingLeft, Found, seek, Goes, interpret}
-use Rattle.rules.specs.Reading.{Reading, Limit, Room, Always, reading, tests, stepsLeft, readTo, undivided}
+use Rattle.rules.specs.Reading.{Reading, NotRefused, Limit, Room, Always, reading, tests, stepsLeft, readTo, undivided, Valid}
 use Rattle.rules.specs.Calls.{feed, unread, handed, Lent, returned, join, feeds, lentBytes}
 use Rattle.rules.proofs.Bools.{false-true}
-use Rattle.rules.proofs.Steps.{seek-rest, Valid, tests-valid, Later, later-tests, later-then, remove-later, step-later}
+use Rattle.rules.proofs.Steps.{seek-rest, tests-valid, Later, later-tests, later-then, remove-later, step-later}
 use Rattle.rules.proofs.Readings.{Reads, done, full, halt, step, reads, full-done, refused-full, refused-done, reads-failed, reads-passed}
 use Rattle.rules.proofs.Cutting.{Plain, Whole, limit, more-whole, Follow, stays, goes, first, returned-handed, budget-left, first-follows}
 use Rattle.rules.proofs.CallLaws.{feed-kept}
@@ -69,9 +69,6 @@ full-goes-on w bs out a = by (tests w) refl
     by Passes t = onward t (first-follows w [] c t)
 
 -- What is left of the budget
-
-abbrev NotRefused : Answer → Type 0
-NotRefused a = (r : Refusal) → a ≡ Refused r → ⊥
 
 -- A step takes one of it
 step-left : {n : ℕ} {w : State} (bs : List ℕ) {b : ℕ} {v u : State} {s : Source} {r : List ℕ} {rs : List Record}

@@ -21,8 +21,8 @@ use Rattle.rules.specs.declared.Set.the-variants.{Characters}
 use Rattle.rules.specs.Numbers.{roomForStep, origin}
 use Rattle.rules.specs.Record.{words, bytesOf, setNumber, recordOf, mark}
 use Rattle.rules.specs.Coding.{React, character, graphic}
-use Rattle.rules.specs.Drawing.{Outcome, Draw, andThen, noOperand, newCommand, act, isOpen}
-use Rattle.rules.proofs.RecordCount.{closed, closed-close}
+use Rattle.rules.specs.Drawing.{Outcome, Draw, andThen, noOperand, newCommand, act, isOpen, closed}
+use Rattle.rules.proofs.RecordCount.{closed-close}
 use Rattle.records.specs.declared.Head.{Head}
 use Rattle.records.specs.Bytes.{overwrite, headOf, headBytes}
 use Rattle.records.proofs.Heads.{record-bytes, head-code}

@@ -22,9 +22,8 @@ use Rattle.rules.specs.Numbers.{storeSize, mostDepth, roomForStep}
 use Rattle.rules.specs.Bodies.{bodyAt, withBody, readBody, depthLeft, unspent}
 use Rattle.rules.specs.Ranges.{placesFit, bodiesFit, waitingFits}
 use Rattle.rules.specs.Step.{State, withBodies, removeSpent, Sought, NothingLeft, Spoilt, Found, FromBody, fromBody, seekAt, seek}
-use Rattle.rules.specs.Reading.{consumedBy}
+use Rattle.rules.specs.Reading.{consumedBy, Valid}
 use Rattle.rules.proofs.Bools.{true-false, false-true, and-left}
-use Rattle.rules.proofs.Steps.{Valid}
 use Rattle.bodies.specs.Stack.{bodiesOf}
 use Rattle.turns.specs.declared.step.Course.{Course}
 use Rattle.turns.specs.declared.step.Course.the-variants.{GoesOn, Ends as Ends·course, Draws}

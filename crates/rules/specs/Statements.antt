@@ -1,0 +1,33 @@
+-- What is claimed of every page, cut, buffer and macro; proofs/Demand3.antt proves it
+use Prim.Native.Nat.{ℕ, _-_}
+use mathlib.Core.Path.{_≡_}
+use mathlib.Core.List.{List, [], _++_}
+use lib.ListN.{take}
+use Rattle.rules.specs.Types.{Full}
+use Rattle.rules.specs.Step.{State}
+use Rattle.rules.specs.Reading.{Steps, readTo, undivided, Waits}
+use Rattle.rules.specs.Calls.{freshState, end, Lent, feeds, lentBytes}
+use Rattle.rules.specs.Expansion.{expansion, endPage, Accepted, allRecords, SameState, SamePage}
+
+-- Cuts and buffers: what a list of one or more feeds from the session and store w hands over. Its last answer, joined records, bytes
+-- consumed in all, session with its step count and store are those of the undivided reading of all the bytes lent; where the answer is
+-- full, those of the reading after as many accepted steps as the session counts more than at first, spent bodies removed, and something
+-- is still left to read there
+pub record ReadsUndivided (w : State) (c : Lent) (cs : List Lent) : Type 0 where
+  pub notFull : (feeds w [] c cs .answer ≡ Full → ⊥) → feeds w [] c cs ≡ undivided w (lentBytes c cs)
+  pub full : feeds w [] c cs .answer ≡ Full
+      → feeds w [] c cs ≡ readTo (Steps (feeds w [] c cs .state .session .steps - w .session .steps)) w (lentBytes c cs)
+  pub waits : feeds w [] c cs .answer ≡ Full → Waits (feeds w [] c cs) (lentBytes c cs)
+
+-- Macros: the expansion of a page is accepted, and has the same records and leaves the same state
+pub record Expanded (budget : ℕ) (page : List ℕ) : Type 0 where
+  pub accepted : Accepted budget (expansion budget page)
+  pub same : SamePage budget page (expansion budget page)
+
+-- Both: a list of feeds from a fresh session, and an end call after it, against the expansion of the bytes lent
+pub record DrawsAlike (budget : ℕ) (c : Lent) (cs : List Lent) (out : List ℕ) : Type 0 where
+  pub accepted : Accepted budget (expansion budget (lentBytes c cs))
+  pub records : feeds (freshState budget) [] c cs .records
+      ++ take (end (feeds (freshState budget) [] c cs .state) out .written) (end (feeds (freshState budget) [] c cs .state) out .output)
+      ≡ allRecords budget (expansion budget (lentBytes c cs))
+  pub state : SameState (end (feeds (freshState budget) [] c cs .state) out .state) (endPage budget (expansion budget (lentBytes c cs)) .state)
