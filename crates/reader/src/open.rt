@@ -14,7 +14,6 @@ use rules::Mode;
 use rules::ORIGIN;
 use rules::Operand;
 use rules::Pen;
-use rules::Point;
 use rules::Refusal;
 use rules::Repertoire;
 use rules::STORE_SIZE;

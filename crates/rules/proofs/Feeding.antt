@@ -7,13 +7,13 @@ use mathlib.Core.List.{List, [], _∷_, _++_, append-assoc, append-nil}
 use lib.ListN.{length, drop}
 use lib.Seq.{drop-append-le, drop-drop}
 use borrow.Author.Tests.{ltb-true}
-use Rattle.rules.specs.Types.{Record, Refusal, Answer, Done, Full, Refused, Verdict, Passes, Fails}
+use Rattle.rules.specs.Types.{Record, Done, Full, Verdict, Passes, Fails}
 use Rattle.rules.specs.Numbers.{roomForStep}
 use Rattle.rules.specs.Step.{State, removeSpent, Source, NothingLeft, Found, seek, Goes, interpret}
 use Rattle.rules.specs.Reading.{Reading, NotRefused, Limit, Room, Always, reading, tests, stepsLeft, readTo, undivided, Valid}
 use Rattle.rules.specs.Calls.{feed, unread, handed, Lent, returned, join, feeds, lentBytes}
 use Rattle.rules.proofs.Bools.{false-true}
-use Rattle.rules.proofs.Steps.{seek-rest, tests-valid, Later, later-tests, later-then, remove-later, step-later}
+use Rattle.rules.proofs.Steps.{seek-rest, tests-valid, later-tests, later-then, remove-later, step-later}
 use Rattle.rules.proofs.Readings.{Reads, done, full, halt, step, reads, full-done, refused-full, refused-done, reads-failed, reads-passed}
 use Rattle.rules.proofs.Cutting.{Plain, Whole, limit, more-whole, Follow, stays, goes, first, returned-handed, budget-left, first-follows}
 use Rattle.rules.proofs.CallLaws.{feed-kept}
