@@ -283,9 +283,9 @@ cuts-undivided w page lengths rooms out =
     (come-undivided w page out (min (total lengths) (length page)) (fedCuts w page lengths rooms out) (a .come) (a .written))
 
 -- From a fresh session the steps are those that the session counts
-pub fresh-full : (budget : ℕ) (bytes out : List ℕ) (h : Handed) → Undivided (freshState budget) bytes out h → h .answer ≡ Full
+pub fresh-calls : (budget : ℕ) (bytes out : List ℕ) (h : Handed) → Undivided (freshState budget) bytes out h → h .answer ≡ Full
     → h ≡ handed (readTo (Steps (h .state .session .steps)) (freshState budget) bytes) out
-fresh-full budget bytes out h u f =
+fresh-calls budget bytes out h u f =
     u .full f ∙ ap (λ (k : ℕ). handed (readTo (Steps k) (freshState budget) bytes) out) (fresh-no-steps budget (h .state .session .steps))
 
 -- The loop that makes them

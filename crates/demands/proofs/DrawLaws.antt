@@ -188,10 +188,10 @@ drawn budget store page lengths rooms out left o f h p q u e =
     )
 
 -- Of two of them
-pub drawn-alike : (budget : ℕ) {store bytes out free others rest : List ℕ} {h k : Handed} → Draws budget store bytes out h
+pub both-drawn : (budget : ℕ) {store bytes out free others rest : List ℕ} {h k : Handed} → Draws budget store bytes out h
     → Draws budget free others rest k → h .answer ≡ Done → length free ≡ storeSize → others ≡ expansion budget bytes
     → DrawnAlike budget bytes h k
-drawn-alike budget {bytes = bytes} {free = free} {rest = rest} {k = k} d e a s q =
+both-drawn budget {bytes = bytes} {free = free} {rest = rest} {k = k} d e a s q =
     let x = expanded budget bytes (d .accepted a) in
     let f = subst (λ (l : List ℕ). Draws budget free l rest k) q e in
     record {

@@ -16,7 +16,7 @@ ghost use mathlib.Core.Path.{_≡_};
 ghost use Prim.Native.Nat.{_<_};
 ghost use Rattle.rules.specs.Reading.{stepsLeft};
 ghost use Rattle.rules.specs.Step.{stateLent};
-ghost use Rattle.reader.specs.Whole.{Whole};
+ghost use Rattle.reader.specs.PieceRead.{PieceRead};
 
 const MOST_ROUNDS: u32 = 1000000;
 
@@ -81,7 +81,7 @@ fn feed_piece(
     piece: &[u8],
     out: &mut [u8; 163840],
 ) -> Turn
-    ensures { λ r. ⌜ Whole Next.Read Next.End (stateLent session (now (store .entry))) (now (piece .entry))
+    ensures { λ r. ⌜ PieceRead Next.Read Next.End (stateLent session (now (store .entry))) (now (piece .entry))
         (r .next) (stateLent (r .session) (now (store .exit))) ⌝ }
 {
     let mut session = session;

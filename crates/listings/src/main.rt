@@ -4,6 +4,7 @@
 use demands::draw_cuts;
 use libc::STDOUT_FILENO;
 use reader::number::number_of;
+use rules::RECORD_SIZE;
 use rules::STORE_SIZE;
 ghost use mathlib.Core.Path.{_≡_};
 ghost use Prim.Native.Nat.{_≤_, _<_, min};
@@ -24,11 +25,11 @@ const RECORDS: usize = LISTING_SIZE / LINE_SIZE;
 // One for each byte of a page, one for each record, and one more.
 const CALLS: usize = PAGE_SIZE + RECORDS + 1;
 
-// So many records of 40 bytes are made text at a time.
-const PART_SIZE: usize = 100 * 40;
+// So many records are made text at a time.
+const PART_SIZE: usize = 100 * RECORD_SIZE;
 
 // All the records, and the largest buffer after them.
-const OUTPUT_SIZE: usize = RECORDS * 40 + 4000;
+const OUTPUT_SIZE: usize = RECORDS * RECORD_SIZE + 4000;
 
 // How much of a listing the text so far agrees with.
 enum Met {

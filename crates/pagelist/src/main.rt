@@ -13,7 +13,7 @@ ghost use mathlib.Core.Path.{_≡_};
 ghost use Prim.Native.Nat.{_<_};
 ghost use Rattle.rules.specs.Reading.{stepsLeft};
 ghost use Rattle.rules.specs.Step.{stateLent};
-ghost use Rattle.reader.specs.Whole.{Whole};
+ghost use Rattle.reader.specs.PieceRead.{PieceRead};
 
 // What follows a piece: the next piece, the end of the page, or nothing, since a read or a write failed.
 enum Next {
@@ -50,7 +50,7 @@ fn write_lines(out: &[u8; 4000], written: usize) -> bool {
 // Feeds a piece until it is read or a step is refused, and writes the lines of each call's records.
 fn feed_piece(session: Session, store: &mut [u8; STORE_SIZE], piece: &[u8]) -> Turn
     ensures { λ r. ⌜ ((r .next ≡ Next.Failed → ⊥) →
-        Whole Next.Read Next.End (stateLent session (now (store .entry))) (now (piece .entry))
+        PieceRead Next.Read Next.End (stateLent session (now (store .entry))) (now (piece .entry))
         (r .next) (stateLent (r .session) (now (store .exit)))) ⌝ }
 {
     let mut out = [0u8; 4000];

@@ -1,4 +1,4 @@
 pub mod FeedLaws
 pub mod EndLaws
 pub mod Promising
-pub mod WholeLaws
+pub mod PieceLaws

@@ -1,4 +1,4 @@
 pub mod Answers
 pub mod Ending
 pub mod Promises
-pub mod Whole
+pub mod PieceRead

@@ -1,4 +1,4 @@
--- What is claimed of every page, cut, buffer and macro; proofs/Demand3.antt proves it
+-- What is claimed of every page, cut, buffer and macro; proved in proofs/Cutting, Expanding and Demand3
 use Prim.Native.Nat.{ℕ, _-_}
 use mathlib.Core.Path.{_≡_}
 use mathlib.Core.List.{List, [], _++_}

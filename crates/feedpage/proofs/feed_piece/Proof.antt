@@ -3,18 +3,18 @@ use native.Mathlib.Omega.{arith}
 use mathlib.Core.Path.{refl}
 use Rattle.rules.specs.Reading.{stepsLeft}
 use Rattle.rules.specs.Step.{stateLent}
-use Rattle.reader.proofs.WholeLaws.{Goes, goes-first, goes-within, goes-on, goes-less, goes-whole}
+use Rattle.reader.proofs.PieceLaws.{PieceUnread, piece-first, piece-within, piece-on, piece-less, piece-read}
 use Rattle.feedpage.proofs.feed_piece.Statement.{statement}
 use Rattle.feedpage.proofs.feed_piece.Tie as tie
 
 abbrev Inv-loop : tie.InvT-loop
-Inv-loop store₀ piece out₀ session₀ at₀ store out session at = Goes (stateLent session₀ store₀) piece at (stateLent session store)
+Inv-loop store₀ piece out₀ session₀ at₀ store out session at = PieceUnread (stateLent session₀ store₀) piece at (stateLent session store)
 
 abbrev μ-loop : tie.MeasureT-loop
 μ-loop store₀ piece out₀ session₀ at₀ store out session at = stepsLeft (stateLent session store)
 
 loop-holds : tie.Need-loop-holds Inv-loop μ-loop
-loop-holds c = goes-first _ _
+loop-holds c = piece-first _ _
 
 feed-from-requires : tie.Need-feed-from-requires Inv-loop μ-loop
 feed-from-requires c κs = search needs
@@ -31,7 +31,7 @@ returns c =
     let loop· = c .before .before .before .before .before .before .before .loop in
     let feed-from· = c .before .before .before .before .feed-from in
     let enum-told· = c .before .enum-told in
-    rw (turn-to· .ensures) (goes-whole (loop· .inv) (feed-from· .ensures) (rw (enum-told· .given .1) refl))
+    rw (turn-to· .ensures) (piece-read (loop· .inv) (feed-from· .ensures) (rw (enum-told· .given .1) refl))
 
 enum-told-2 : tie.Need-enum-told-2 Inv-loop μ-loop
 enum-told-2 c = search needs
@@ -45,7 +45,7 @@ returns-2 c =
     let loop· = c .before .before .before .before .before .before .before .loop in
     let feed-from· = c .before .before .before .before .feed-from in
     let enum-told2· = c .before .enum-told2 in
-    rw (turn-to2· .ensures) (goes-whole (loop· .inv) (feed-from· .ensures) (rw (enum-told2· .given .1) refl))
+    rw (turn-to2· .ensures) (piece-read (loop· .inv) (feed-from· .ensures) (rw (enum-told2· .given .1) refl))
 
 enum-told-3 : tie.Need-enum-told-3 Inv-loop μ-loop
 enum-told-3 c = search needs
@@ -55,21 +55,21 @@ add-at c =
     let loop· = c .before .before .before .before .before .before .before .loop in
     let feed-from· = c .before .before .before .before .feed-from in
     let good· = c .before .before .before .before .before .before .before .before .before .good in
-    omega (arith, good·, goes-within (loop· .inv) (feed-from· .ensures))
+    omega (arith, good·, piece-within (loop· .inv) (feed-from· .ensures))
 
 loop-less : tie.Need-loop-less Inv-loop μ-loop
 loop-less c =
     let loop· = c .before .before .before .before .before .before .before .loop in
     let feed-from· = c .before .before .before .before .feed-from in
     let enum-told3· = c .before .enum-told3 in
-    goes-less (loop· .inv) (feed-from· .ensures) (search needs) (enum-told3· .given .1)
+    piece-less (loop· .inv) (feed-from· .ensures) (search needs) (enum-told3· .given .1)
 
 loop-again : tie.Need-loop-again Inv-loop μ-loop
 loop-again c =
     let loop· = c .before .before .before .before .before .before .before .loop in
     let feed-from· = c .before .before .before .before .feed-from in
     let enum-told3· = c .before .enum-told3 in
-    goes-on (loop· .inv) (feed-from· .ensures) (enum-told3· .given .1)
+    piece-on (loop· .inv) (feed-from· .ensures) (enum-told3· .given .1)
 
 pub feed-piece-spec : {M : Type 1} → statement M
 feed-piece-spec =

@@ -2,7 +2,7 @@ use borrow.Author.Needs.{needs}
 use native.Mathlib.Omega.{arith}
 use Prim.Native.Nat.{ℕ}
 use mathlib.Core.Path.{_≡_, sym, ap, _∙_}
-use Rattle.reader.proofs.WholeLaws.{whole-less}
+use Rattle.reader.proofs.PieceLaws.{read-less}
 use Rattle.feedpage.specs.declared.Next.the-variants.{Read, End, Failed}
 use Rattle.feedpage.specs.declared.Turn.{Turn}
 use Rattle.feedpage.proofs.read_once.Statement.{statement}
@@ -65,7 +65,7 @@ returns-3 c =
     let feed-piece· = c .feed-piece in
     let count· = c .before .before .before .before .before .count in
     let if2· = c .before .before .before .before .if2 in
-    λ e. whole-less (feed-piece· .ensures) read-end e (omega (arith, count· .ensures .0 .1, if2· .left))
+    λ e. read-less (feed-piece· .ensures) read-end e (omega (arith, count· .ensures .0 .1, if2· .left))
 
 pub read-once-spec : {M : Type 1} → statement M
 read-once-spec =

@@ -16,25 +16,25 @@ use Rattle.rules.proofs.Cutting.{cutting}
 use Rattle.rules.proofs.Feeding.{full-goes-on, full-leaves-less, done-leaves-less}
 use Rattle.handing.specs.declared.Fed.{Fed}
 use Rattle.reader.specs.Promises.{Feeds}
-use Rattle.reader.specs.Whole.{Follows, Whole}
+use Rattle.reader.specs.PieceRead.{NextAfter, PieceRead}
 
 -- After calls that began in the state w and left v, the piece unread from a position on: its reading from there ends as that of the
 -- whole piece does
-pub record Goes (w : State) (piece : List ℕ) (at : ℕ) (v : State) : Type 0 where
+pub record PieceUnread (w : State) (piece : List ℕ) (at : ℕ) (v : State) : Type 0 where
   pub within : at ≤ length piece
   pub state : undivided v (unread piece at) .state ≡ undivided w piece .state
   pub answer : undivided v (unread piece at) .answer ≡ undivided w piece .answer
 
-pub goes-first : (w : State) (piece : List ℕ) → Goes w piece 0 w
+pub piece-first : (w : State) (piece : List ℕ) → PieceUnread w piece 0 w
 unfolding unread
-goes-first w piece = record { within = omega arith; state = refl; answer = refl }
+piece-first w piece = record { within = omega arith; state = refl; answer = refl }
 
 -- One call more
 module _ {w : State} {piece : List ℕ} {at : ℕ} {v : State} {out : List ℕ} {r : Fed} {left written : List ℕ}
-    (g : Goes w piece at v) (f : Feeds v (unread piece at) out r left written) where
-  pub goes-within : at + r .consumed ≤ length piece
+    (g : PieceUnread w piece at v) (f : Feeds v (unread piece at) out r left written) where
+  pub piece-within : at + r .consumed ≤ length piece
   unfolding feed unread
-  goes-within =
+  piece-within =
       let i = g .within in
       let k = feed-kept v (drop at piece) (length out) .consumed in
       omega (arith, k, length-drop at piece, ap (λ (h : Handed). h .consumed) (f .same))
@@ -51,40 +51,40 @@ module _ {w : State} {piece : List ℕ} {at : ℕ} {v : State} {out : List ℕ} 
       (sym (drop-drop (r .consumed) at piece) ∙ ap (λ (h : Handed). drop (h .consumed) (drop at piece)) (f .same))
 
   -- Where it ends full, the next goes on from the bytes it consumed
-  pub goes-on : r .answer ≡ Full → Goes w piece (at + r .consumed) (stateLent (r .session) left)
-  goes-on a =
+  pub piece-on : r .answer ≡ Full → PieceUnread w piece (at + r .consumed) (stateLent (r .session) left)
+  piece-on a =
       let on = full-goes-on v (unread piece at) out (sym answered ∙ a) in
       record {
-        within = goes-within;
+        within = piece-within;
         state = ap (λ (x : Reading). x .state) rest ∙ sym (ap (λ (x : Reading). x .state) on) ∙ g .state;
         answer = ap (λ (x : Reading). x .answer) rest ∙ sym (ap (λ (x : Reading). x .answer) on) ∙ g .answer;
       }
 
   -- and less of the budget is left
-  pub goes-less : roomForStep ≤ length out → r .answer ≡ Full → stepsLeft (stateLent (r .session) left) < stepsLeft v
-  goes-less m a =
+  pub piece-less : roomForStep ≤ length out → r .answer ≡ Full → stepsLeft (stateLent (r .session) left) < stepsLeft v
+  piece-less m a =
       subst (λ (u : State). stepsLeft u < stepsLeft v) (sym (ap (λ (h : Handed). h .state) (f .same)))
       (full-leaves-less v (unread piece at) out m (sym answered ∙ a))
 
   -- Where it does not, the whole piece is read
-  pub goes-whole : {N : Type 0} {read ends n : N} → Follows read ends n (r .answer)
-      → Whole read ends w piece n (stateLent (r .session) left)
+  pub piece-read : {N : Type 0} {read ends n : N} → NextAfter read ends n (r .answer)
+      → PieceRead read ends w piece n (stateLent (r .session) left)
   unfolding feeds
-  goes-whole {read = read} {ends = ends} {n = n} h =
+  piece-read {read = read} {ends = ends} {n = n} h =
       let c : Lent = record { further = unread piece at; buffer = out } in
-      let e = cutting v c [] .notFull (λ a. subst (Follows read ends n) (answered ∙ a) h) in
+      let e = cutting v c [] .notFull (λ a. subst (NextAfter read ends n) (answered ∙ a) h) in
       record {
         state = ap (λ (h : Handed). h .state) (f .same) ∙ ap (λ (x : Reading). x .state) e ∙ g .state;
-        next = subst (Follows read ends n) (answered ∙ ap (λ (x : Reading). x .answer) e ∙ g .answer) h;
+        next = subst (NextAfter read ends n) (answered ∙ ap (λ (x : Reading). x .answer) e ∙ g .answer) h;
       }
 
 -- A piece that has bytes and is read leaves less of the budget
-pub whole-less : {N : Type 0} {read ends : N} {w : State} {piece : List ℕ} {n : N} {v : State} → Whole read ends w piece n v
+pub read-less : {N : Type 0} {read ends : N} {w : State} {piece : List ℕ} {n : N} {v : State} → PieceRead read ends w piece n v
     → (read ≡ ends → ⊥) → n ≡ read → 0 < length piece → stepsLeft v < stepsLeft w
-whole-less {read = read} {ends = ends} {w = w} {piece = piece} {n = n} {v = v} h d e m =
+read-less {read = read} {ends = ends} {w = w} {piece = piece} {n = n} {v = v} h d e m =
     subst (λ (u : State). stepsLeft u < stepsLeft w) (sym (h .state)) (done-leaves-less w piece m (by (undivided w piece .answer) (h .next)))
   where
-    by : (a : Answer) → Follows read ends n a → a ≡ Done
+    by : (a : Answer) → NextAfter read ends n a → a ≡ Done
     by Done k = refl
     by Full k = absurd k
     by (Refused r) k = absurd (d (sym e ∙ k))

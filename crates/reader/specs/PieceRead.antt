@@ -9,12 +9,12 @@ use Rattle.rules.specs.Reading.{undivided}
 
 -- What follows an answer: read, the next piece, after done; ends, the end of the page, after a refusal. Full is no answer of a whole
 -- piece
-abbrev pub Follows : {N : Type 0} → N → N → N → Answer → Type 0
-Follows read ends n Done = n ≡ read
-Follows read ends n Full = ⊥
-Follows read ends n (Refused r) = n ≡ ends
+abbrev pub NextAfter : {N : Type 0} → N → N → N → Answer → Type 0
+NextAfter read ends n Done = n ≡ read
+NextAfter read ends n Full = ⊥
+NextAfter read ends n (Refused r) = n ≡ ends
 
 -- From the state w to v the piece was read as the undivided reading reads it, and n is what follows its answer
-pub record Whole {N : Type 0} (read ends : N) (w : State) (piece : List ℕ) (n : N) (v : State) : Type 0 where
+pub record PieceRead {N : Type 0} (read ends : N) (w : State) (piece : List ℕ) (n : N) (v : State) : Type 0 where
   pub state : v ≡ undivided w piece .state
-  pub next : Follows read ends n (undivided w piece .answer)
+  pub next : NextAfter read ends n (undivided w piece .answer)
