@@ -46,7 +46,7 @@ use Rattle.advance.proofs.RunLaws.{run-walk, piece-feeds, body-feeds, i
 pub walk-then : {piece : List ℕ} {x y z : Place} → Walk piece x y → Walk piece y z → Walk piece x z
 walk-then a none = a
 walk-then a (removed b) = removed (walk-then a b)
-walk-then a (step b e) = step (walk-then a b) e
+walk-then a (step b m e) = step (walk-then a b) m e
 
 -- Spent bodies removed
 pub walk-removed : (budget : ℕ) (p : Progress) (cells places firsts : List ℕ) (g : Drawing) (st piece out : List ℕ)

@@ -29,6 +29,7 @@ use Rattle.rules.specs.Drawing.{Draw, act}
 use Rattle.rules.specs.Record.{bytesOfAll}
 use Rattle.rules.specs.Reading.{consumedBy}
 use Rattle.rules.specs.Store.{firstOf}
+use Rattle.rules.specs.Turn.{Takes, onMove, onSought, turn}
 use Rattle.rules.specs.Step.{State, stateOf, removeSpent, Source, FromBody, FromPiece, Found, fromBody, seekAt, seek, Goes, onOutcome, call, onReaction, opensInside, interpret}
 use Rattle.records.proofs.Writes.{overwrite-none}
 use Rattle.macros.specs.Stretch.{onBy, Gives}
@@ -38,14 +39,14 @@ use Rattle.figures.specs.Carried.{Carried, carry}
 use Rattle.runs.specs.Run.{ActsAs, Run, none as run-none, more as run-more}
 use Rattle.macros.specs.Each.{none as each-none, more as each-more}
 use Rattle.idle.specs.Idle.{Coded, Idle}
-use Rattle.turns.specs.Turn.{Steps, onMove, onSought, turn}
 use Rattle.advance.specs.Walk.{Place, placed, Walk, none, step}
 
--- A byte that is found and accepted, in a state with so much left of the budget
-turn-found : (room n : ℕ) (w : State) (bs : List ℕ) {m b : ℕ} {v u : State} {s : Source} {r : List ℕ} {rs : List Record}
-    → roomForStep ≤ room → n ≡ suc m → seek (removeSpent w) bs ≡ Found b v s r → interpret v s b ≡ Goes u rs → turn room n w bs ≡ Steps s u rs
+-- A byte that is found and accepted
+turn-found : (room n : ℕ) (w : State) (bs : List ℕ) {b : ℕ} {v u : State} {s : Source} {r : List ℕ} {rs : List Record}
+    → roomForStep ≤ room → seek (removeSpent w) bs ≡ Found b v s r → interpret v s b ≡ Goes u rs
+    → turn (ltb room roomForStep) (suc n) w bs ≡ Takes (record { byte = b; source = s; rest = r; after = u; records = rs })
 unfolding turn onSought onMove
-turn-found room n w bs h k q e = rw (le-ltb room roomForStep h, k, q, e)
+turn-found room n w bs h q e = rw (le-ltb room roomForStep h, q, e)
 
 -- With nothing waited for
 
@@ -94,9 +95,9 @@ module _ {piece bytes : List ℕ} {from limit : ℕ} {st : List ℕ} {s : Source
     run-walk run-none l = none
     run-walk (run-more {n} {y} {a} {e} {rs} r acts room drew) l =
         rw (add-suc steps n, ← f .on n)
-        (step (run-walk r (omega arith))
-        (turn-found (length (y .output) - y .at) (budget - (steps + n)) (stateOf budget (steps + n) Running (bodies n) c (y .drawing) st) (drop (at n) piece) {m = budget - (steps + n) - 1}
-        (omega arith) (omega arith) (f .sought n l budget (steps + n) c (y .drawing))
+        (step {n = budget - (steps + n) - 1} (run-walk r (omega arith)) (omega arith)
+        (turn-found (length (y .output) - y .at) (budget - (steps + n) - 1) (stateOf budget (steps + n) Running (bodies n) c (y .drawing) st) (drop (at n) piece)
+        (omega arith) (f .sought n l budget (steps + n) c (y .drawing))
         (acts-goes budget (steps + n) (bodies (suc n)) c (y .drawing) e st s (getD bytes (from + n) 0) a rs h acts drew)))
 
 -- The piece, without a body
@@ -163,10 +164,10 @@ module _ (piece : List ℕ) (at written budget steps : ℕ) (cells places : List
     unfolding bytesOfAll
     quiet-step {x} n y z c e st st′ v l a r f i =
         let found = piece-found (stateOf budget (steps + n) Running y c d st) v piece (at + n) r f (omega arith) in
-        let t = turn-found (length out - written) (budget - (steps + n)) (stateOf budget (steps + n) Running y c d st) (drop (at + n) piece) {m = budget - (steps + n) - 1} room (omega arith) found i in
+        let t = turn-found (length out - written) (budget - (steps + n) - 1) (stateOf budget (steps + n) Running y c d st) (drop (at + n) piece) room found i in
         let there = placed (stateOf budget (suc (steps + n)) Running z e d st′) (suc (at + n)) in
         rw (add-suc steps n, add-suc at n)
-        (subst (Walk piece x) (ap (λ (o : List ℕ). there (written + 0) o) (overwrite-none out written) ∙ ap (λ (m : ℕ). there m out) (add-zero written)) (step a t))
+        (subst (Walk piece x) (ap (λ (o : List ℕ). there (written + 0) o) (overwrite-none out written) ∙ ap (λ (m : ℕ). there m out) (add-zero written)) (step {n = budget - (steps + n) - 1} a (omega arith) t))
 
     idle-goes : (n : ℕ) (c e : Coding) (st st′ : List ℕ) (b : ℕ) → react c st b ≡ React e st′ Idle·action
         → interpret (stateOf budget n Running (bodiesOf 0 cells places) c d st) FromPiece b ≡ Goes (stateOf budget (suc n) Running (bodiesOf 0 cells places) e d st′) []

@@ -3,20 +3,21 @@ use Prim.Native.Nat.{ℕ, zero, suc, _+_, _-_, _<_, _≤_}
 use mathlib.Core.List.{List}
 use mathlib.Core.Path.{_≡_}
 use lib.ListN.{length, drop, getD, set}
+use lib.Dec.{ltb}
 use Rattle.rules.specs.declared.Drawing.{Drawing}
-use Rattle.rules.specs.declared.Record.{Record}
 use Rattle.rules.specs.declared.Sets.{Sets}
 use Rattle.rules.specs.declared.Waiting.{Waiting}
+use Rattle.rules.specs.Numbers.{roomForStep}
 use Rattle.rules.specs.Bodies.{bodyAt}
 use Rattle.rules.specs.Record.{bytesOfAll}
-use Rattle.rules.specs.Step.{State, removeSpent, Source}
+use Rattle.rules.specs.Step.{State, removeSpent}
+use Rattle.rules.specs.Turn.{Taken, Takes, turn}
 use Rattle.rules.specs.Reading.{consumedBy}
 use Rattle.records.specs.Bytes.{overwrite}
 use Rattle.macros.specs.Lent.{Sized}
 use Rattle.macros.specs.Stretch.{Gives}
 use Rattle.bodies.specs.Stack.{bodiesOf}
 use Rattle.turns.specs.declared.step.Progress.{Progress}
-use Rattle.turns.specs.Turn.{Steps, turn}
 use Rattle.turns.specs.View.{stateAt}
 
 -- Where a reading stands: its state, the place of the piece, the place of the output, and the output
@@ -39,9 +40,11 @@ budgetLeft w = w .session .budget - w .session .steps
 pub data Walk (piece : List ℕ) (x : Place) : Place → Type 0 where
   none : Walk piece x x
   removed : {y : Place} → Walk piece x y → Walk piece x (placed (removeSpent (y .state)) (y .at) (y .written) (y .output))
-  step : {y : Place} {s : Source} {u : State} {rs : List Record} → Walk piece x y
-      → turn (length (y .output) - y .written) (budgetLeft (y .state)) (y .state) (drop (y .at) piece) ≡ Steps s u rs
-      → Walk piece x (placed u (consumedBy s (y .at)) (y .written + length (bytesOfAll rs)) (overwrite (y .written) (bytesOfAll rs) (y .output)))
+  step : {y : Place} {n : ℕ} {t : Taken} → Walk piece x y → budgetLeft (y .state) ≡ suc n
+      → turn (ltb (length (y .output) - y .written) roomForStep) (suc n) (y .state) (drop (y .at) piece) ≡ Takes t
+      → Walk piece x
+      (placed (t .after) (consumedBy (t .source) (y .at)) (y .written + length (bytesOfAll (t .records)))
+      (overwrite (y .written) (bytesOfAll (t .records)) (y .output)))
 
 -- What is asked of a progress that runs begin from
 pub record Fit (p : Progress) (st piece out : List ℕ) : Type 0 where

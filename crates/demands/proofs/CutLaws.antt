@@ -10,7 +10,7 @@ use lib.Seq.{take-append-seam, drop-append-seam, drop-append-le, drop-append-add
 use Rattle.rules.specs.declared.Answer.the-variants.{Done, Full}
 use Rattle.rules.specs.Step.{State, removeSpent, NothingLeft, seek, Some, stateLent}
 use Rattle.rules.specs.Reading.{Reading, Room, Steps, rests, readTo, undivided}
-use Rattle.rules.specs.Calls.{freshState, Handed, handed, feed, unread, Lent, returned, join, feeds, lentBytes}
+use Rattle.rules.specs.Calls.{Terms, freshState, Handed, handed, feed, unread, Lent, returned, join, feeds, lentBytes}
 use Rattle.rules.proofs.Cutting.{join-rests, returned-handed, cutting, fresh-no-steps}
 use Rattle.rules.proofs.CallLaws.{feed-kept}
 use Rattle.rules.proofs.Feeding.{lent-last, feeds-last}
@@ -283,10 +283,10 @@ cuts-undivided w page lengths rooms out =
     (come-undivided w page out (min (total lengths) (length page)) (fedCuts w page lengths rooms out) (a .come) (a .written))
 
 -- From a fresh session the steps are those that the session counts
-pub fresh-calls : (budget : ℕ) (bytes out : List ℕ) (h : Handed) → Undivided (freshState budget) bytes out h → h .answer ≡ Full
-    → h ≡ handed (readTo (Steps (h .state .session .steps)) (freshState budget) bytes) out
-fresh-calls budget bytes out h u f =
-    u .full f ∙ ap (λ (k : ℕ). handed (readTo (Steps k) (freshState budget) bytes) out) (fresh-no-steps budget (h .state .session .steps))
+pub fresh-calls : (terms : Terms) (bytes out : List ℕ) (h : Handed) → Undivided (freshState terms) bytes out h → h .answer ≡ Full
+    → h ≡ handed (readTo (Steps (h .state .session .steps)) (freshState terms) bytes) out
+fresh-calls terms bytes out h u f =
+    u .full f ∙ ap (λ (k : ℕ). handed (readTo (Steps k) (freshState terms) bytes) out) (fresh-no-steps terms (h .state .session .steps))
 
 -- The loop that makes them
 

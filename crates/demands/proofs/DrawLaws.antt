@@ -21,7 +21,7 @@ use Rattle.rules.specs.Drawing.{isOpen}
 use Rattle.rules.specs.Ranges.{fits}
 use Rattle.rules.specs.Step.{State, stateLent}
 use Rattle.rules.specs.Reading.{Reading, Always, verdict, tests, undivided, NotRefused}
-use Rattle.rules.specs.Calls.{Opening, freshState, openAs, openPage, Handed, handed, ending, endChecks, end}
+use Rattle.rules.specs.Calls.{Terms, Opening, freshState, openAs, openPage, Handed, handed, ending, endChecks, end}
 use Rattle.rules.specs.Expansion.{expansion, readPage, endPage, allRecords, SameState}
 use Rattle.rules.proofs.Readings.{full-done, refused-done, refused-full, reads-failed}
 use Rattle.rules.proofs.CallLaws.{end-kept}
@@ -73,21 +73,21 @@ end-told h e = ap (λ (a : Answer). endAfter a h) (sym e)
 
 -- Open
 
-open-sized : (budget : ℕ) (store : List ℕ) → length store ≡ storeSize → openPage budget store .state ≡ freshState budget
+open-sized : (terms : Terms) (store : List ℕ) → length store ≡ storeSize → openPage terms store .state ≡ freshState terms
 unfolding openPage openAs
-open-sized budget store e = ap (λ (t : Bool). openAs t budget store .state) (eq-eqb (length store) storeSize e)
+open-sized terms store e = ap (λ (t : Bool). openAs t terms store .state) (eq-eqb (length store) storeSize e)
 
 -- The session of an open that was refused reads nothing
-open-read : (budget : ℕ) (store bytes : List ℕ) → undivided (openPage budget store .state) bytes .answer ≡ Done
-    → openPage budget store .state ≡ freshState budget
+open-read : (terms : Terms) (store bytes : List ℕ) → undivided (openPage terms store .state) bytes .answer ≡ Done
+    → openPage terms store .state ≡ freshState terms
 unfolding openPage openAs undivided tests
-open-read budget store bytes a = by (eqb (length store) storeSize) refl a
+open-read terms store bytes a = by (eqb (length store) storeSize) refl a
   where
-    by : (t : Bool) → eqb (length store) storeSize ≡ t → undivided (openAs t budget store .state) bytes .answer ≡ Done
-        → openAs t budget store .state ≡ freshState budget
+    by : (t : Bool) → eqb (length store) storeSize ≡ t → undivided (openAs t terms store .state) bytes .answer ≡ Done
+        → openAs t terms store .state ≡ freshState terms
     by true e d = refl
     by false e d =
-        let w = openAs false budget store .state in
+        let w = openAs false terms store .state in
         let t : tests w ≡ Fails StoreSize = ap (λ (b : Bool). verdict b (w .session .status) (fits (w .session))) e in
         refused-done (ap (λ (x : Reading). x .answer) (sym (reads-failed Always w bytes t)) ∙ d)
 
@@ -116,12 +116,12 @@ end-read x z out rest =
     ∙ take-append-add (x .records) (z .records ++ rest) (length (z .records))
     ∙ ap (λ (l : List ℕ). x .records ++ l) (take-append-seam (z .records) rest)
 
-read-draws : (budget : ℕ) (store bytes out : List ℕ) → undivided (freshState budget) bytes .answer ≡ Done
-    → length (undivided (freshState budget) bytes .records) ≤ length out
-    → Draws budget store bytes out (endMore (handed (undivided (freshState budget) bytes) out))
+read-draws : (terms : Terms) (store bytes out : List ℕ) → undivided (freshState terms) bytes .answer ≡ Done
+    → length (undivided (freshState terms) bytes .records) ≤ length out
+    → Draws terms store bytes out (endMore (handed (undivided (freshState terms) bytes) out))
 unfolding end readPage endPage allRecords
-read-draws budget store bytes out d m =
-    let x = undivided (freshState budget) bytes in
+read-draws terms store bytes out d m =
+    let x = undivided (freshState terms) bytes in
     let n = length (x .records) in
     let rest = drop n (x .records ++ drop n out) in
     let z = ending (length rest) (x .state) in
@@ -137,26 +137,26 @@ read-draws budget store bytes out d m =
     }
 
 -- Of all the calls
-pub draws : (budget : ℕ) (store bytes out : List ℕ) (f h : Handed) → Undivided (openPage budget store .state) bytes out f
-    → h ≡ endDone f → Draws budget store bytes out h
+pub draws : (terms : Terms) (store bytes out : List ℕ) (f h : Handed) → Undivided (openPage terms store .state) bytes out f
+    → h ≡ endDone f → Draws terms store bytes out h
 unfolding endAfter readPage
-draws budget store bytes out f h u e = by (f .answer) refl
+draws terms store bytes out f h u e = by (f .answer) refl
   where
     left : {a : Answer} → f .answer ≡ a → h ≡ endAfter a f
     left q = e ∙ sym (end-told f q)
 
-    read : (f .answer ≡ Full → ⊥) → openPage budget store .state ≡ freshState budget → f ≡ handed (undivided (freshState budget) bytes) out
+    read : (f .answer ≡ Full → ⊥) → openPage terms store .state ≡ freshState terms → f ≡ handed (undivided (freshState terms) bytes) out
     read n w = u .notFull n ∙ ap (λ (v : State). handed (undivided v bytes) out) w
 
-    by : (a : Answer) → f .answer ≡ a → Draws budget store bytes out h
+    by : (a : Answer) → f .answer ≡ a → Draws terms store bytes out h
     by Done q =
         let n : f .answer ≡ Full → ⊥ = λ p. full-done (sym p ∙ q) in
-        let o = open-read budget store bytes (ap (λ (g : Handed). g .answer) (sym (u .notFull n)) ∙ q) in
+        let o = open-read terms store bytes (ap (λ (g : Handed). g .answer) (sym (u .notFull n)) ∙ q) in
         let g = read n o in
-        subst (Draws budget store bytes out) (sym (left q ∙ ap endMore g))
-        (read-draws budget store bytes out (ap (λ (y : Handed). y .answer) (sym g) ∙ q) (subst (λ (y : Handed). y .written ≤ length out) g (u .within)))
+        subst (Draws terms store bytes out) (sym (left q ∙ ap endMore g))
+        (read-draws terms store bytes out (ap (λ (y : Handed). y .answer) (sym g) ∙ q) (subst (λ (y : Handed). y .written ≤ length out) g (u .within)))
     by Full q =
-        subst (Draws budget store bytes out) (sym (left q))
+        subst (Draws terms store bytes out) (sym (left q))
         (record {
           accepted = λ a. full-done (sym q ∙ a);
           records = λ a. full-done (sym q ∙ a);
@@ -165,40 +165,40 @@ draws budget store bytes out f h u e = by (f .answer) refl
           within = u .within;
         })
     by (Refused r) q =
-        subst (Draws budget store bytes out) (sym (left q))
+        subst (Draws terms store bytes out) (sym (left q))
         (record {
           accepted = λ a. refused-done (sym q ∙ a);
           records = λ a. refused-done (sym q ∙ a);
           state = λ a. refused-done (sym q ∙ a);
           notRefused = λ s a.
-              refused-done (sym q ∙ ap (λ (g : Handed). g .answer) (read (λ p. refused-full (sym q ∙ p)) (open-sized budget store s)) ∙ a .read);
+              refused-done (sym q ∙ ap (λ (g : Handed). g .answer) (read (λ p. refused-full (sym q ∙ p)) (open-sized terms store s)) ∙ a .read);
           within = u .within;
         })
 
-pub drawn : (budget : ℕ) (store page lengths rooms out left : List ℕ) (o : Opened) (f h : Handed) → Opens budget store o left
+pub drawn : (terms : Terms) (store page lengths rooms out left : List ℕ) (o : Opened) (f h : Handed) → Opens terms store o left
     → f ≡ fedCuts (stateLent (o .session) left) page lengths rooms out
     → Undivided (stateLent (o .session) left) (lentOf page lengths) out f → h ≡ endDone f
-    → (h ≡ drawnCuts budget store page lengths rooms out) × Draws budget store (lentOf page lengths) out h
+    → (h ≡ drawnCuts terms store page lengths rooms out) × Draws terms store (lentOf page lengths) out h
 unfolding drawnCuts
-drawn budget store page lengths rooms out left o f h p q u e =
-    let w : stateLent (o .session) left ≡ openPage budget store .state = ap (λ (x : Opening). x .state) (p .same) in
+drawn terms store page lengths rooms out left o f h p q u e =
+    let w : stateLent (o .session) left ≡ openPage terms store .state = ap (λ (x : Opening). x .state) (p .same) in
     let bytes = lentOf page lengths in (
       e ∙ ap endDone (q ∙ ap (λ (v : State). fedCuts v page lengths rooms out) w),
-      draws budget store bytes out f h (subst (λ (v : State). Undivided v bytes out f) w u) e,
+      draws terms store bytes out f h (subst (λ (v : State). Undivided v bytes out f) w u) e,
     )
 
 -- Of two of them
-pub both-drawn : (budget : ℕ) {store bytes out free others rest : List ℕ} {h k : Handed} → Draws budget store bytes out h
-    → Draws budget free others rest k → h .answer ≡ Done → length free ≡ storeSize → others ≡ expansion budget bytes
-    → DrawnAlike budget bytes h k
-both-drawn budget {bytes = bytes} {free = free} {rest = rest} {k = k} d e a s q =
-    let x = expanded budget bytes (d .accepted a) in
-    let f = subst (λ (l : List ℕ). Draws budget free l rest k) q e in
+pub both-drawn : (terms : Terms) {store bytes out free others rest : List ℕ} {h k : Handed} → Draws terms store bytes out h
+    → Draws terms free others rest k → h .answer ≡ Done → length free ≡ storeSize → others ≡ expansion terms bytes
+    → DrawnAlike terms bytes h k
+both-drawn terms {bytes = bytes} {free = free} {rest = rest} {k = k} d e a s q =
+    let x = expanded terms bytes (d .accepted a) in
+    let f = subst (λ (l : List ℕ). Draws terms free l rest k) q e in
     record {
       accepted = x .accepted;
       notRefused = f .notRefused s (x .accepted);
       records = λ b. d .records a ∙ x .same .records ∙ sym (f .records b);
       state = λ b.
           subst (λ (v : State). SameState v (k .state)) (sym (d .state a))
-          (subst (SameState (endPage budget bytes .state)) (sym (f .state b)) (x .same .state));
+          (subst (SameState (endPage terms bytes .state)) (sym (f .state b)) (x .same .state));
     }

@@ -7,7 +7,7 @@ use Rattle.rules.specs.declared.Answer.{Answer}
 use Rattle.rules.specs.declared.Answer.the-variants.{Done, Full, Refused}
 use Rattle.rules.specs.Numbers.{storeSize}
 use Rattle.rules.specs.Reading.{NotRefused}
-use Rattle.rules.specs.Calls.{openPage, Handed, end}
+use Rattle.rules.specs.Calls.{Terms, openPage, Handed, end}
 use Rattle.rules.specs.Expansion.{expansion, endPage, Accepted, allRecords, SameState}
 use Rattle.demands.specs.Cuts.{fedCuts}
 
@@ -33,24 +33,24 @@ abbrev pub endDone : Handed → Handed
 endDone h = endAfter (h .answer) h
 
 -- An open, feed calls from the session and store that it hands over, and an end
-unfoldable pub drawnCuts : ℕ → List ℕ → List ℕ → List ℕ → List ℕ → List ℕ → Handed
-drawnCuts budget store page lengths rooms out = endDone (fedCuts (openPage budget store .state) page lengths rooms out)
+unfoldable pub drawnCuts : Terms → List ℕ → List ℕ → List ℕ → List ℕ → List ℕ → Handed
+drawnCuts terms store page lengths rooms out = endDone (fedCuts (openPage terms store .state) page lengths rooms out)
 
 abbrev pub recordsOf : Handed → List ℕ
 recordsOf h = take (h .written) (h .output)
 
 -- What the calls came to, lent a store to open and these bytes in all, in an output that was out: where all answered done, the page
 -- is accepted, and records and state are those of the page as one piece; where the page is accepted, none is refused
-pub record Draws (budget : ℕ) (store bytes out : List ℕ) (h : Handed) : Type 0 where
-  pub accepted : h .answer ≡ Done → Accepted budget bytes
-  pub records : h .answer ≡ Done → recordsOf h ≡ allRecords budget bytes
-  pub state : h .answer ≡ Done → h .state ≡ endPage budget bytes .state
-  pub notRefused : length store ≡ storeSize → Accepted budget bytes → NotRefused (h .answer)
+pub record Draws (terms : Terms) (store bytes out : List ℕ) (h : Handed) : Type 0 where
+  pub accepted : h .answer ≡ Done → Accepted terms bytes
+  pub records : h .answer ≡ Done → recordsOf h ≡ allRecords terms bytes
+  pub state : h .answer ≡ Done → h .state ≡ endPage terms bytes .state
+  pub notRefused : length store ≡ storeSize → Accepted terms bytes → NotRefused (h .answer)
   pub within : h .written ≤ length out
 
 -- Demand 3, macros: calls that came to h read a page, all answered done, and calls that came to k are lent its expansion
-pub record DrawnAlike (budget : ℕ) (bytes : List ℕ) (h k : Handed) : Type 0 where
-  pub accepted : Accepted budget (expansion budget bytes)
+pub record DrawnAlike (terms : Terms) (bytes : List ℕ) (h k : Handed) : Type 0 where
+  pub accepted : Accepted terms (expansion terms bytes)
   pub notRefused : NotRefused (k .answer)
   pub records : k .answer ≡ Done → recordsOf h ≡ recordsOf k
   pub state : k .answer ≡ Done → SameState (h .state) (k .state)

@@ -10,6 +10,7 @@ ghost use Prim.Native.Nat.{_+_, _≤_, min};
 ghost use lib.ListN.{length, getD};
 ghost use Rattle.rules.specs.Numbers.{storeSize};
 ghost use Rattle.rules.specs.declared.Answer.the-variants.{Done};
+ghost use Rattle.rules.specs.Calls.{withBudget};
 ghost use Rattle.rules.specs.Expansion.{expansion};
 ghost use Rattle.rules.specs.Step.{stateLent};
 ghost use Rattle.handing.specs.Handing.{handedOf};
@@ -152,8 +153,8 @@ pub fn draw_cuts(
     out: &mut [u8],
 ) -> Fed
     ensures { λ r. ⌜ handedOf r (now (store .exit)) (now (out .exit))
-        ≡ drawnCuts budget (now (store .entry)) (now (page .entry)) (now (lengths .entry)) (now (rooms .entry)) (now (out .entry)) ⌝ }
-    ensures { λ r. ⌜ Draws budget (now (store .entry)) (lentOf (now (page .entry)) (now (lengths .entry)))
+        ≡ drawnCuts (withBudget budget) (now (store .entry)) (now (page .entry)) (now (lengths .entry)) (now (rooms .entry)) (now (out .entry)) ⌝ }
+    ensures { λ r. ⌜ Draws (withBudget budget) (now (store .entry)) (lentOf (now (page .entry)) (now (lengths .entry)))
         (now (out .entry)) (handedOf r (now (store .exit)) (now (out .exit))) ⌝ }
 {
     let opened = open(store, budget);
@@ -177,13 +178,13 @@ pub fn draw_both(
     other_out: &mut [u8],
 ) -> Both
     ensures { λ r. ⌜ handedOf (r .page) (now (store .exit)) (now (out .exit))
-        ≡ drawnCuts budget (now (store .entry)) (now (page .entry)) (now (lengths .entry)) (now (rooms .entry)) (now (out .entry)) ⌝ }
+        ≡ drawnCuts (withBudget budget) (now (store .entry)) (now (page .entry)) (now (lengths .entry)) (now (rooms .entry)) (now (out .entry)) ⌝ }
     ensures { λ r. ⌜ handedOf (r .other) (now («other_store» .exit)) (now («other_out» .exit))
-        ≡ drawnCuts budget (now («other_store» .entry)) (now (other .entry)) (now («other_lengths» .entry))
+        ≡ drawnCuts (withBudget budget) (now («other_store» .entry)) (now (other .entry)) (now («other_lengths» .entry))
         (now («other_rooms» .entry)) (now («other_out» .entry)) ⌝ }
     ensures { λ r. ⌜ (r .page .answer ≡ Done → length (now («other_store» .entry)) ≡ storeSize
-        → lentOf (now (other .entry)) (now («other_lengths» .entry)) ≡ expansion budget (lentOf (now (page .entry)) (now (lengths .entry)))
-        → DrawnAlike budget (lentOf (now (page .entry)) (now (lengths .entry)))
+        → lentOf (now (other .entry)) (now («other_lengths» .entry)) ≡ expansion (withBudget budget) (lentOf (now (page .entry)) (now (lengths .entry)))
+        → DrawnAlike (withBudget budget) (lentOf (now (page .entry)) (now (lengths .entry)))
         (handedOf (r .page) (now (store .exit)) (now (out .exit)))
         (handedOf (r .other) (now («other_store» .exit)) (now («other_out» .exit)))) ⌝ }
 {

@@ -6,7 +6,7 @@ use mathlib.Core.List.{List}
 use Rattle.rules.specs.declared.Session.{Session}
 use Rattle.rules.specs.declared.Shade.{Shade}
 use Rattle.rules.specs.Step.{State}
-use Rattle.rules.specs.Calls.{numberOf, Opening, openPage, Handed, feed, end, colour, shadeNumber, shadeValues}
+use Rattle.rules.specs.Calls.{numberOf, Terms, Opening, openPage, Handed, feed, end, colour, shadeNumber, shadeValues}
 use Rattle.handing.specs.declared.Fed.{Fed}
 use Rattle.handing.specs.Handing.{handedOf}
 use Rattle.reader.specs.declared.open.Opened.{Opened}
@@ -15,7 +15,7 @@ use Rattle.reader.specs.Answers.{openingOf}
 use Rattle.reader.specs.Ending.{endingOf}
 use Rattle.reader.specs.Promises.{Opens, Feeds, Ends, Shades}
 
-pub opens : {budget : ℕ} {store left : List ℕ} {r : Opened} → openingOf r left ≡ openPage budget store → Opens budget store r left
+pub opens : {terms : Terms} {store left : List ℕ} {r : Opened} → openingOf r left ≡ openPage terms store → Opens terms store r left
 opens e = record { number = ap (λ (o : Opening). numberOf (o .answer)) e; same = e }
 
 pub feeds : {w : State} {piece out left written : List ℕ} {r : Fed} → handedOf r left written ≡ feed w piece out → Feeds w piece out r left written

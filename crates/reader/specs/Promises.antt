@@ -6,7 +6,7 @@ use mathlib.Core.List.{List}
 use Rattle.rules.specs.declared.Session.{Session}
 use Rattle.rules.specs.declared.Shade.{Shade}
 use Rattle.rules.specs.Step.{State}
-use Rattle.rules.specs.Calls.{numberOf, openPage, feed, end, colour, shadeNumber, shadeValues}
+use Rattle.rules.specs.Calls.{numberOf, Terms, openPage, feed, end, colour, shadeNumber, shadeValues}
 use Rattle.handing.specs.declared.Fed.{Fed}
 use Rattle.handing.specs.Handing.{handedOf}
 use Rattle.reader.specs.declared.open.Opened.{Opened}
@@ -15,9 +15,9 @@ use Rattle.reader.specs.Answers.{openingOf}
 use Rattle.reader.specs.Ending.{endingOf}
 
 -- Open, lent a store; left is the store as it is left
-pub record Opens (budget : ℕ) (store : List ℕ) (r : Opened) (left : List ℕ) : Type 0 where
-  pub number : numberOf (r .answer) ≡ numberOf (openPage budget store .answer)
-  pub same : openingOf r left ≡ openPage budget store
+pub record Opens (terms : Terms) (store : List ℕ) (r : Opened) (left : List ℕ) : Type 0 where
+  pub number : numberOf (r .answer) ≡ numberOf (openPage terms store .answer)
+  pub same : openingOf r left ≡ openPage terms store
 
 -- Feed, lent the session and store w, a piece and an output; left and written are the store and the output as they are left
 pub record Feeds (w : State) (piece out : List ℕ) (r : Fed) (left written : List ℕ) : Type 0 where

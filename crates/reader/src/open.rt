@@ -24,7 +24,7 @@ use rules::Status;
 use rules::Waiting;
 ghost use mathlib.Core.Path.{_≡_};
 ghost use Rattle.rules.specs.Drawing.{freshDrawing};
-ghost use Rattle.rules.specs.Calls.{freshSession};
+ghost use Rattle.rules.specs.Calls.{withBudget, freshSession};
 ghost use Rattle.reader.specs.Promises.{Opens};
 
 pub struct Opened {
@@ -79,7 +79,7 @@ fn fresh_drawing() -> Drawing
 }
 
 fn fresh_session(status: Status, budget: u32) -> Session
-    ensures { λ r. ⌜ r ≡ freshSession status budget ⌝ }
+    ensures { λ r. ⌜ r ≡ freshSession status (withBudget budget) ⌝ }
 {
     let drawing = fresh_drawing();
     Session {
@@ -108,7 +108,7 @@ fn fresh_session(status: Status, budget: u32) -> Session
 
 // Opens a page with a budget of steps. A store of another size is left as it is, and the session is stopped.
 pub fn open(store: &mut [u8], budget: u32) -> Opened
-    ensures { λ r. ⌜ Opens budget (now (store .entry)) r (now (store .exit)) ⌝ }
+    ensures { λ r. ⌜ Opens (withBudget budget) (now (store .entry)) r (now (store .exit)) ⌝ }
 {
     if store.len() != STORE_SIZE {
         let refusal = Refusal::StoreSize;

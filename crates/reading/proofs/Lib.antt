@@ -1,4 +1,3 @@
-pub mod Turns
 pub mod Whole
 pub mod WalkLaws
 pub mod ReadLaws

@@ -6,6 +6,7 @@ use mathlib.Core.Path.{_≡_, refl, sym, ap, _∙_, subst}
 use mathlib.Core.Bool.{true, false}
 use mathlib.Core.List.{List}
 use lib.ListN.{length, drop}
+use lib.Dec.{ltb}
 use Rattle.rules.specs.declared.Action.{Action}
 use Rattle.rules.specs.declared.Answer.{Answer}
 use Rattle.rules.specs.declared.Answer.the-variants.{Done, Full, Refused}
@@ -19,6 +20,7 @@ use Rattle.rules.specs.declared.Session.{Session}
 use Rattle.rules.specs.declared.Status.{Status}
 use Rattle.rules.specs.Numbers.{roomForStep}
 use Rattle.rules.specs.Step.{State, stateLent}
+use Rattle.rules.specs.Turn.{turn}
 use Rattle.rules.specs.Drawing.{noOperand, act}
 use Rattle.rules.specs.Reading.{Room, reading, Valid}
 use Rattle.rules.specs.Calls.{handed}
@@ -29,7 +31,7 @@ use Rattle.turns.specs.declared.step.Course.the-variants.{GoesOn, Ends, Draws}
 use Rattle.turns.specs.declared.step.Progress.{Progress}
 use Rattle.turns.specs.declared.step.Turned.{Turned}
 use Rattle.handing.specs.declared.Fed.{Fed}
-use Rattle.turns.specs.Turn.{turn, Left, leaves}
+use Rattle.turns.specs.Leaving.{Left, leaves}
 use Rattle.turns.specs.View.{stateAt, answered, sessionAfter, leftOf, startOf, atDepth, writtenTo, DrawDueBy, DrawDue, RoomBy, readOnIf}
 use Rattle.handing.specs.Handing.{handedOf, fedOf}
 use Rattle.runs.specs.Strokes.{penAfter}
@@ -101,7 +103,7 @@ module _ (s : Session) (st₀ piece out₀ : List ℕ) (valid : Valid (stateLent
 
   module _ (p : Progress) (cells places firsts : List ℕ) (d : Drawing) (st out : List ℕ) (i : Kept first piece out₀ (stateAt (s .budget) p cells places firsts d st) (p .at) (p .written) out)
       (r : Turned) (cells₁ places₁ firsts₁ st₁ : List ℕ)
-      (e : (c : Drawing) (l : List ℕ) → leftOf (s .budget) (atDepth (r .progress .depth) p) r cells₁ places₁ firsts₁ c st₁ l ≡ leaves (turn (length out - p .written) (s .budget - p .steps) (stateAt (s .budget) p cells places firsts c st) (drop (p .at) piece)) (p .at) (p .written) l)
+      (e : (c : Drawing) (l : List ℕ) → leftOf (s .budget) (atDepth (r .progress .depth) p) r cells₁ places₁ firsts₁ c st₁ l ≡ leaves (turn (ltb (length out - p .written) roomForStep) (s .budget - p .steps) (stateAt (s .budget) p cells places firsts c st) (drop (p .at) piece)) (p .at) (p .written) l)
     where
       abbrev before : State
       before = stateAt (s .budget) p cells places firsts d st

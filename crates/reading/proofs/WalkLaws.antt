@@ -1,29 +1,22 @@
 -- What is kept along a walk
 use Prim.Native.Nat.{ℕ, _-_, _≤_}
 use native.Mathlib.Omega.{arith}
-use mathlib.Core.Path.{_≡_, _∙_, subst}
+use mathlib.Core.Path.{_≡_, _∙_}
 use mathlib.Core.List.{List}
 use lib.ListN.{length, drop}
-use Rattle.rules.specs.declared.Record.{Record}
-use Rattle.rules.specs.Reading.{Room, Valid}
-use Rattle.rules.specs.Step.{State, removeSpent, Source}
+use lib.Dec.{ltb}
+use Rattle.rules.specs.Numbers.{roomForStep}
+use Rattle.rules.specs.Reading.{Room}
+use Rattle.rules.specs.Step.{State, removeSpent}
 use Rattle.rules.proofs.Readings.{reading-removed}
 use Rattle.rules.proofs.Steps.{remove-later}
-use Rattle.turns.specs.Turn.{Steps, turn}
+use Rattle.rules.proofs.Turns.{turn-advances}
 use Rattle.advance.specs.Walk.{Place, budgetLeft, Walk, none, removed, step}
-use Rattle.reading.proofs.Turns.{Advance, Follows, turn-follows}
 use Rattle.reading.proofs.Whole.{Kept, kept-on}
 
 module _ (piece : List ℕ) where
   abbrev room : Place → ℕ
   room y = length (y .output) - y .written
-
-  advances : (y : Place) {s : Source} {u : State} {rs : List Record} → Valid (y .state)
-      → turn (room y) (budgetLeft (y .state)) (y .state) (drop (y .at) piece) ≡ Steps s u rs
-      → Advance (room y) (budgetLeft (y .state)) (y .state) (drop (y .at) piece) s u rs
-  advances y i e =
-      subst (Follows (room y) (budgetLeft (y .state)) (y .state) (drop (y .at) piece)) e
-      (turn-follows (room y) (budgetLeft (y .state)) (y .state) (drop (y .at) piece) i)
 
   abbrev KeptAt : State → List ℕ → Place → Type 0
   KeptAt w out x = Kept w piece out (x .state) (x .at) (x .written) (x .output)
@@ -44,9 +37,8 @@ module _ (piece : List ℕ) where
         },
         j .1,
       )
-  walk-keeps w out (step {y} {s} {u} {rs} a e) i =
+  walk-keeps w out (step {y} a b e) i =
       let j = walk-keeps w out a i in
-      let f = advances y (j .0 .sound) e in
-      let n = f .later .steps in
+      let n = turn-advances (y .state) (drop (y .at) piece) (j .0 .sound) (ltb (room y) roomForStep) e .later .steps in
       let k = j .1 in
-      (kept-on w piece out (y .state) (y .at) (y .written) (y .output) (j .0) f, omega arith)
+      (kept-on w piece out (y .state) (y .at) (y .written) (y .output) (j .0) b e, omega arith)

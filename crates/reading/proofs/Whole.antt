@@ -1,25 +1,29 @@
 -- What the loop of a reading keeps: the whole is what was read so far, and then the reading from here
-use Prim.Native.Nat.{ℕ, _+_, _-_, _≤_, _<_}
+use Prim.Native.Nat.{ℕ, suc, _+_, _-_, _≤_, _<_}
 use native.Mathlib.Nat.{add-zero, zero-add, sub-zero, add-suc, suc-add}
 use native.Mathlib.Numerals.{add-one}
 use native.Mathlib.Omega.{arith}
 use mathlib.Core.Path.{_≡_, refl, sym, ap, _∙_, subst}
 use mathlib.Core.List.{List, _++_, append-nil, append-assoc}
 use lib.ListN.{length, take, drop, length-append, length-drop, take-append-drop}
+use lib.Dec.{ltb}
+use borrow.Author.Tests.{ltb-false}
 use lib.Seq.{take-at, drop-at, length-take-le, drop-drop}
 use Rattle.rules.specs.declared.Answer.{Answer}
-use Rattle.rules.specs.declared.Record.{Record}
+use Rattle.rules.specs.Numbers.{roomForStep}
 use Rattle.rules.specs.Record.{bytesOfAll}
 use Rattle.rules.specs.Step.{State, Source, FromBody, FromPiece}
+use Rattle.rules.specs.Turn.{Taken, Turn, Ends, Takes, turn}
 use Rattle.rules.specs.Reading.{Reading, Room, rests, consumedBy, stepThen, reading, Valid}
 use Rattle.rules.specs.Calls.{handed}
+use Rattle.rules.proofs.Readings.{reads-ends, reads-takes}
+use Rattle.rules.proofs.Turns.{turn-advances}
 use Rattle.records.specs.Bytes.{overwrite}
 use Rattle.records.proofs.Writes.{overwrite-length}
 use Rattle.turns.specs.declared.step.Course.{Course}
 use Rattle.turns.specs.declared.step.Course.the-variants.{GoesOn, Ends as Ends·course, Draws}
-use Rattle.turns.specs.Turn.{Turn, Ends, Steps, turn, Left, leaves}
+use Rattle.turns.specs.Leaving.{Left, leaves}
 use Rattle.advance.specs.Walk.{budgetLeft}
-use Rattle.reading.proofs.Turns.{Advance, Follows, turn-follows}
 
 -- So many bytes consumed and records written before a reading
 abbrev ahead : ℕ → List ℕ → Reading → Reading
@@ -61,28 +65,31 @@ kept-first w piece out v =
 
 module _ (w₀ : State) (piece out₀ : List ℕ) (w : State) (at written : ℕ) (out : List ℕ) where
   -- A turn that goes on keeps it
-  pub kept-on : {s : Source} {u : State} {rs : List Record} → Kept w₀ piece out₀ w at written out
-      → Advance (length out - written) (budgetLeft w) w (drop at piece) s u rs
-      → Kept w₀ piece out₀ u (consumedBy s at) (written + length (bytesOfAll rs)) (overwrite written (bytesOfAll rs) out)
+  pub kept-on : {n : ℕ} {t : Taken} → Kept w₀ piece out₀ w at written out
+      → budgetLeft w ≡ suc n → turn (ltb (length out - written) roomForStep) (suc n) w (drop at piece) ≡ Takes t
+      → Kept w₀ piece out₀ (t .after) (consumedBy (t .source) at) (written + length (bytesOfAll (t .records))) (overwrite written (bytesOfAll (t .records)) out)
   unfolding overwrite
-  kept-on {s} {u} {rs} i f =
-      let bs = bytesOfAll rs in
+  kept-on {n} {t} i b e =
+      let s = t .source in
+      let bs = bytesOfAll (t .records) in
+      let f = turn-advances w (drop at piece) (i .sound) (ltb (length out - written) roomForStep) e in
       let few = f .few in
-      let free = f .free in
+      let free = ltb-false (length out - written) roomForStep (f .free) in
       let room : written + length bs ≤ length out = omega arith in
       let lo : length (overwrite written bs out) ≡ length out = overwrite-length bs out written room in
       let ln : length (take written out ++ bs) ≡ written + length bs = length-append (take written out) bs ∙ ap (λ (n : ℕ). n + length bs) (length-take-le written out (i .within)) in
       let joined : take written out ++ (bs ++ drop (written + length bs) out) ≡ (take written out ++ bs) ++ drop (written + length bs) out = sym (append-assoc (take written out) bs (drop (written + length bs) out)) in
       let so-far : take written out ++ bs ≡ take (written + length bs) (overwrite written bs out) =
       sym (ap (take (written + length bs)) joined ∙ take-at (take written out ++ bs) (drop (written + length bs) out) (written + length bs) ln) in
-      let left : f .rest ≡ budgetLeft u = omega (arith, f .budget, f .later .budget, f .later .steps) in
+      let left : n ≡ budgetLeft (t .after) = omega (arith, b, f .later .budget, f .later .steps) in
       let free-after : length out - written - length bs ≡ length (overwrite written bs out) - (written + length bs) = omega arith in
       record {
         same =
             i .same
-            ∙ ap (ahead at (take written out)) (f .same)
-            ∙ ahead-after s at (take written out) bs (reading (Room (length out - written - length bs)) (f .rest) u (drop (consumedBy s 0) (drop at piece)))
-            ∙ rw (so-far, free-after, left, drop-on s at piece);
+            ∙ ap (λ (m : ℕ). ahead at (take written out) (reading (Room (length out - written)) m w (drop at piece))) b
+            ∙ ap (ahead at (take written out)) (reads-takes (Room (length out - written)) n w (drop at piece) e)
+            ∙ ahead-after s at (take written out) bs (reading (Room (length out - written - length bs)) n (t .after) (t .rest))
+            ∙ rw (so-far, free-after, left, f .rest, drop-on s at piece);
         past =
             ap (drop (written + length bs)) joined
             ∙ drop-at (take written out ++ bs) (drop (written + length bs) out) (written + length bs) ln
@@ -112,15 +119,19 @@ module _ (w₀ : State) (piece out₀ : List ℕ) (w : State) (at written : ℕ)
       record { answer = a; state = x .state; consumed = x .consumed; written = x .written; output = x .output } ≡ handed (wholeReading w₀ piece out₀) out₀
   Next (Draws a) x = Unit
 
-  turn-next : (t : Turn) → Kept w₀ piece out₀ w at written out → Follows (length out - written) (budgetLeft w) w (drop at piece) t
+  turn-next : {n : ℕ} (t : Turn n) → Kept w₀ piece out₀ w at written out
+      → budgetLeft w ≡ n → turn (ltb (length out - written) roomForStep) n w (drop at piece) ≡ t
       → Next (leaves t at written out .course) (leaves t at written out)
   unfolding leaves
-  turn-next (Ends a v) i f = kept-ends a v i f
-  turn-next (Steps s u rs) i f = (kept-on i f, f .later .steps, omega (arith, f .budget))
+  turn-next {n} (Ends a v) i b e =
+      kept-ends a v i
+      (ap (λ (m : ℕ). reading (Room (length out - written)) m w (drop at piece)) b ∙ reads-ends (Room (length out - written)) n w (drop at piece) e)
+  turn-next (Takes t) i b e =
+      (kept-on i b e, turn-advances w (drop at piece) (i .sound) (ltb (length out - written) roomForStep) e .later .steps, omega (arith, b))
 
   -- What a turn leaves, as a function of it answered
   pub kept-next : (x : Left) → Kept w₀ piece out₀ w at written out
-      → x ≡ leaves (turn (length out - written) (budgetLeft w) w (drop at piece)) at written out → Next (x .course) x
+      → x ≡ leaves (turn (ltb (length out - written) roomForStep) (budgetLeft w) w (drop at piece)) at written out → Next (x .course) x
   kept-next x i e =
       subst (λ (y : Left). Next (y .course) y) (sym e)
-      (turn-next (turn (length out - written) (budgetLeft w) w (drop at piece)) i (turn-follows (length out - written) (budgetLeft w) w (drop at piece) (i .sound)))
+      (turn-next (turn (ltb (length out - written) roomForStep) (budgetLeft w) w (drop at piece)) i refl refl)

@@ -10,6 +10,7 @@ pub mod DrawingRanges
 pub mod RecordCount
 pub mod CodingRanges
 pub mod Steps
+pub mod Turns
 pub mod Readings
 pub mod Cutting
 pub mod Pending

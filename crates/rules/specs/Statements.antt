@@ -6,7 +6,7 @@ use lib.ListN.{take}
 use Rattle.rules.specs.Types.{Full}
 use Rattle.rules.specs.Step.{State}
 use Rattle.rules.specs.Reading.{Steps, readTo, undivided, Waits}
-use Rattle.rules.specs.Calls.{freshState, end, Lent, feeds, lentBytes}
+use Rattle.rules.specs.Calls.{Terms, freshState, end, Lent, feeds, lentBytes}
 use Rattle.rules.specs.Expansion.{expansion, endPage, Accepted, allRecords, SameState, SamePage}
 
 -- Cuts and buffers: what a list of one or more feeds from the session and store w hands over. Its last answer, joined records, bytes
@@ -20,14 +20,14 @@ pub record ReadsUndivided (w : State) (c : Lent) (cs : List Lent) : Type 0 where
   pub waits : feeds w [] c cs .answer ≡ Full → Waits (feeds w [] c cs) (lentBytes c cs)
 
 -- Macros: the expansion of a page is accepted, and has the same records and leaves the same state
-pub record Expanded (budget : ℕ) (page : List ℕ) : Type 0 where
-  pub accepted : Accepted budget (expansion budget page)
-  pub same : SamePage budget page (expansion budget page)
+pub record Expanded (terms : Terms) (page : List ℕ) : Type 0 where
+  pub accepted : Accepted terms (expansion terms page)
+  pub same : SamePage terms page (expansion terms page)
 
 -- Both: a list of feeds from a fresh session, and an end call after it, against the expansion of the bytes lent
-pub record DrawsAlike (budget : ℕ) (c : Lent) (cs : List Lent) (out : List ℕ) : Type 0 where
-  pub accepted : Accepted budget (expansion budget (lentBytes c cs))
-  pub records : feeds (freshState budget) [] c cs .records
-      ++ take (end (feeds (freshState budget) [] c cs .state) out .written) (end (feeds (freshState budget) [] c cs .state) out .output)
-      ≡ allRecords budget (expansion budget (lentBytes c cs))
-  pub state : SameState (end (feeds (freshState budget) [] c cs .state) out .state) (endPage budget (expansion budget (lentBytes c cs)) .state)
+pub record DrawsAlike (terms : Terms) (c : Lent) (cs : List Lent) (out : List ℕ) : Type 0 where
+  pub accepted : Accepted terms (expansion terms (lentBytes c cs))
+  pub records : feeds (freshState terms) [] c cs .records
+      ++ take (end (feeds (freshState terms) [] c cs .state) out .written) (end (feeds (freshState terms) [] c cs .state) out .output)
+      ≡ allRecords terms (expansion terms (lentBytes c cs))
+  pub state : SameState (end (feeds (freshState terms) [] c cs .state) out .state) (endPage terms (expansion terms (lentBytes c cs)) .state)

@@ -4,7 +4,7 @@ use native.Mathlib.Nat.{add-zero}
 use native.Mathlib.Numerals.{add-one, sub-one}
 use mathlib.Core.Path.{_≡_, refl, sym, ap, _∙_}
 use mathlib.Core.Bool.{Bool, true, false, _&&_}
-use mathlib.Core.List.{List}
+use mathlib.Core.List.{List, []}
 use mathlib.Core.Logic.{_⊎_, inl, inr}
 use lib.ListN.{set}
 use lib.Dec.{eqb}
@@ -30,6 +30,7 @@ use Rattle.rules.specs.Store.{firstOf}
 use Rattle.rules.specs.Coding.{Reaction, Refuse, Call, React, react, afterEscape}
 use Rattle.rules.specs.Drawing.{Outcome, NotDrawn, Draw, act}
 use Rattle.rules.specs.Record.{bytesOfAll}
+use Rattle.rules.specs.Turn.{onMove}
 use Rattle.rules.specs.Reading.{consumedBy}
 use Rattle.rules.specs.Step.{State, withBodies, Move, onOutcome, call, onReaction, opensInside, interpret}
 use Rattle.rules.proofs.Bools.{true-false, false-true}
@@ -47,7 +48,7 @@ use Rattle.turns.specs.declared.step.Course.{Course}
 use Rattle.turns.specs.declared.step.Course.the-variants.{GoesOn, Ends as Ends·course, Draws}
 use Rattle.turns.specs.declared.step.Progress.{Progress}
 use Rattle.turns.specs.declared.step.Turned.{Turned}
-use Rattle.turns.specs.Turn.{onMove, sourceAt, readOn, stepBy, interpreted, Left, leaves}
+use Rattle.turns.specs.Leaving.{sourceAt, readOn, stepBy, interpreted, Left, leaves}
 use Rattle.turns.specs.View.{stateAt, codingAfter, stepsTo, writtenTo, answered, leftBy, leftOf, DrawDueBy, DrawDue, RoomBy, Ready, readOnIf}
 
 -- 6 is for a byte from a body
@@ -112,7 +113,7 @@ module _ (budget : ℕ) (p : Progress) (cells places firsts : List ℕ) (d : Dra
   called : (y : Bodies) (cells₁ places₁ : List ℕ) (first after : ℕ) → bodiesOf (p .depth) cells₁ places₁ ≡ y → p .depth < mostDepth
       → first ≡ firstOf firsts name → after ≡ consumedBy (sourceAt (p .depth)) (p .at)
       → leftOf budget p (goes (stepsTo after (p .depth + 1) s u p)) (set cells₁ (p .depth) first) (set places₁ (p .depth) 0) firsts d st out
-      ≡ leaves (onMove (call name (codingOf s u firsts) (withBodies y before)) (sourceAt (p .depth)) before) (p .at) (p .written) out
+      ≡ leaves {n = 1} (onMove (call name (codingOf s u firsts) (withBodies y before)) 0 (sourceAt (p .depth)) [] before) (p .at) (p .written) out
   unfolding call onMove leaves bytesOfAll
   called y cells₁ places₁ first after e h f a =
       rw (← e, lt-ltb (p .depth) mostDepth h, ← f, ← a, overwrite-none out (p .written), add-zero (p .written), add-one (p .steps), add-one (p .depth))
@@ -135,7 +136,7 @@ module _ (budget : ℕ) (p : Progress) (cells places firsts : List ℕ) (d : Dra
 
   idled : (y : Bodies) (cells₁ places₁ : List ℕ) (after : ℕ) → bodiesOf (p .depth) cells₁ places₁ ≡ y → after ≡ consumedBy (sourceAt (p .depth)) (p .at)
       → leftOf budget p (goes (stepsTo after (p .depth) s u p)) cells₁ places₁ firsts d st out
-      ≡ leaves (onMove (onOutcome (act Idle d) (codingOf s u firsts) st (withBodies y (stateAt budget p cells places firsts d st))) (sourceAt (p .depth)) (stateAt budget p cells places firsts d st)) (p .at) (p .written) out
+      ≡ leaves {n = 1} (onMove (onOutcome (act Idle d) (codingOf s u firsts) st (withBodies y (stateAt budget p cells places firsts d st))) 0 (sourceAt (p .depth)) [] (stateAt budget p cells places firsts d st)) (p .at) (p .written) out
   unfolding act onOutcome onMove leaves bytesOfAll
   idled y cells₁ places₁ after e a = rw (← e, ← a, overwrite-none out (p .written), add-zero (p .written), add-one (p .steps))
 

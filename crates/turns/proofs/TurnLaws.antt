@@ -21,7 +21,8 @@ use Rattle.rules.specs.declared.Refusal.the-variants.{BudgetUsed, OutOfRange}
 use Rattle.rules.specs.Numbers.{storeSize, mostDepth, roomForStep}
 use Rattle.rules.specs.Bodies.{bodyAt, withBody, readBody, depthLeft, unspent}
 use Rattle.rules.specs.Ranges.{placesFit, bodiesFit, waitingFits}
-use Rattle.rules.specs.Step.{State, withBodies, removeSpent, Sought, NothingLeft, Spoilt, Found, FromBody, fromBody, seekAt, seek}
+use Rattle.rules.specs.Step.{State, withBodies, removeSpent, Source, FromBody, Sought, NothingLeft, Spoilt, Found, fromBody, seekAt, seek, Move, Stops, Goes, interpret}
+use Rattle.rules.specs.Turn.{Turn, Ends, stopped, onMove, onSought, turn}
 use Rattle.rules.specs.Reading.{consumedBy, Valid}
 use Rattle.rules.proofs.Bools.{true-false, false-true, and-left}
 use Rattle.bodies.specs.Stack.{bodiesOf}
@@ -29,7 +30,7 @@ use Rattle.turns.specs.declared.step.Course.{Course}
 use Rattle.turns.specs.declared.step.Course.the-variants.{GoesOn, Ends as Ends·course, Draws}
 use Rattle.turns.specs.declared.step.Progress.{Progress}
 use Rattle.turns.specs.declared.step.Turned.{Turned}
-use Rattle.turns.specs.Turn.{Turn, Ends, stopped, onSought, turn, nothingLeft, nextByte, sourceAt, advanced, interpreted, Left, leaves}
+use Rattle.turns.specs.Leaving.{nothingLeft, nextByte, sourceAt, advanced, interpreted, Left, leaves}
 use Rattle.turns.specs.View.{stateAt, atDepth, leftBy, leftOf, DrawDueBy, DrawDue, Ready}
 
 -- Whether something is left: of a body, or of the piece
@@ -98,6 +99,13 @@ unfolding onSought
 spent-sought d BadCell w bs = refl
 spent-sought d (Byte b x) w bs = refl
 
+-- What a move leaves is the same for every byte and rest of the piece
+move-leaves : (n : ℕ) (m : Move) (b : ℕ) (s : Source) (bs : List ℕ) (w : State) (at written : ℕ) (out : List ℕ)
+    → leaves {n = suc n} (onMove m b s bs w) at written out ≡ leaves {n = 1} (onMove m 0 s [] w) at written out
+unfolding onMove leaves
+move-leaves n (Stops r) b s bs w at written out = refl
+move-leaves n (Goes u rs) b s bs w at written out = refl
+
 -- What the tests before a feed say of a state
 pub valid-store : {w : State} → Valid w → length (w .store) ≡ storeSize
 valid-store {w} v = eqb-true (length (w .store)) storeSize (v .size)
@@ -148,20 +156,21 @@ module _ (budget : ℕ) (p : Progress) (cells places firsts : List ℕ) (drawing
   rest = drop (p .at) piece
 
   abbrev Answers : Left → Type 0
-  Answers l = l ≡ leaves (turn free (budget - p .steps) entry rest) (p .at) (p .written) out
+  Answers l = l ≡ leaves (turn (ltb free roomForStep) (budget - p .steps) entry rest) (p .at) (p .written) out
 
   pub spent-removed : removed ≡ removeSpent entry
   unfolding removeSpent unspent
   spent-removed = rw (f, e)
 
-  comes : (t : Turn) (l : Left) → onSought (ltb free roomForStep) (budget - p .steps) (seek removed rest) removed ≡ t → l ≡ leaves t (p .at) (p .written) out → Answers l
+  comes : {n : ℕ} (t : Turn n) (l : Left) → budget - p .steps ≡ n → onSought (ltb free roomForStep) n (seek removed rest) removed ≡ t
+      → l ≡ leaves t (p .at) (p .written) out → Answers l
   unfolding turn
-  comes t l g h = rw (← spent-removed, g) h
+  comes t l m g h = rw (← spent-removed, m, g) h
 
   pub turn-done : nothingLeft d rest ≡ true → (r : Turned) → r ≡ record { course = Ends·course Done; progress = q; cursor = nowhere }
       → Answers (leftOf budget (atDepth (r .progress .depth) p) r cells places firsts drawing st out)
   unfolding seek onSought leaves
-  turn-done h r g = comes (Ends Done removed) _ (rw (none-sought (q .depth) removed rest (rw f h))) (rw (g, f))
+  turn-done h r g = comes (Ends Done removed) _ refl (rw (none-sought (q .depth) removed rest (rw f h))) (rw (g, f))
 
   module _ (h : nothingLeft d rest ≡ false) where
     found : seek removed rest ≡ soughtBy d (nextByte d st (bodiesOf d cells places) rest) removed rest
@@ -172,7 +181,7 @@ module _ (budget : ℕ) (p : Progress) (cells places firsts : List ℕ) (drawing
         → Answers (leftOf budget (atDepth (r .progress .depth) p) r cells places firsts drawing st out)
     unfolding leaves
     turn-full k r g =
-        comes (Ends Full removed) _ (rw (found, lt-ltb free roomForStep k) (full-sought d (budget - p .steps) (nextByte d st (bodiesOf d cells places) rest) removed rest)) (rw (g, f))
+        comes (Ends Full removed) _ refl (rw (found, lt-ltb free roomForStep k) (full-sought d (budget - p .steps) (nextByte d st (bodiesOf d cells places) rest) removed rest)) (rw (g, f))
 
     module _ (k : roomForStep ≤ free) where
       enough : ltb free roomForStep ≡ false
@@ -184,7 +193,7 @@ module _ (budget : ℕ) (p : Progress) (cells places firsts : List ℕ) (drawing
       turn-spent n r g =
           let most : budget ≤ p .steps = rw f at n in
           let none : budget - p .steps ≡ 0 = omega arith in
-          comes (stopped BudgetUsed removed) _ (rw (found, enough, none) (spent-sought d (nextByte d st (bodiesOf d cells places) rest) removed rest)) (rw (g, f))
+          comes (stopped BudgetUsed removed) _ none (rw (found, enough) (spent-sought d (nextByte d st (bodiesOf d cells places) rest) removed rest)) (rw (g, f))
 
       module _ (n : q .steps < budget) (x : Read) (i : x ≡ nextByte d st (bodiesOf d cells places) rest) where
         some-left : budget - p .steps ≡ suc (budget - (p .steps + 1))
@@ -193,15 +202,21 @@ module _ (budget : ℕ) (p : Progress) (cells places firsts : List ℕ) (drawing
         pub turn-bad : x ≡ BadCell → (r : Turned) → r ≡ record { course = Ends·course (Refused OutOfRange); progress = q; cursor = nowhere }
             → Answers (leftOf budget (atDepth (r .progress .depth) p) r cells places firsts drawing st out)
         unfolding onSought leaves
-        turn-bad j r g = comes (stopped OutOfRange removed) _ (rw (found, ← i, j, enough, some-left)) (rw (g, f))
+        turn-bad j r g = comes (stopped OutOfRange removed) _ some-left (rw (found, ← i, j, enough)) (rw (g, f))
 
         pub turn-byte : {b : ℕ} {y : Cursor} → x ≡ Byte b y → (r : Turned) → DrawDue q r → (cells₁ places₁ firsts₁ st₁ : List ℕ)
             → leftOf budget q r cells₁ places₁ firsts₁ drawing st₁ out ≡ leaves (interpreted (q .depth) y b removed) (q .at) (q .written) out
             → Answers (leftOf budget (atDepth (r .progress .depth) p) r cells₁ places₁ firsts₁ drawing st₁ out)
         unfolding onSought interpreted
         turn-byte {b} {y} j r u cells₁ places₁ firsts₁ st₁ g =
-            comes (interpreted d y b removed) _ (rw (found, ← i, j, enough, some-left))
-            (left-due budget p d q f r u cells₁ places₁ firsts₁ drawing st₁ out ∙ g ∙ rw f)
+            let m = interpret (advanced d y removed) (sourceAt d) b in
+            let bs = drop (consumedBy (sourceAt d) 0) rest in
+            let same : leaves (interpreted (q .depth) y b removed) (q .at) (q .written) out ≡ leaves (interpreted d y b removed) (p .at) (p .written) out = rw f in
+            comes (onMove m b (sourceAt d) bs removed) _ some-left (rw (found, ← i, j, enough))
+            (left-due budget p d q f r u cells₁ places₁ firsts₁ drawing st₁ out
+            ∙ g
+            ∙ same
+            ∙ sym (move-leaves (budget - (p .steps + 1)) m b (sourceAt d) bs removed (p .at) (p .written) out))
 
 -- What is asked of a byte's interpretation
 pub asked-ready : (budget : ℕ) (p : Progress) (d : ℕ) (q : Progress) → q ≡ atDepth d p → (after : ℕ) → p .depth ≤ 8 → d ≤ p .depth

@@ -21,7 +21,7 @@ use Rattle.rules.specs.Reading.{consumedBy}
 use Rattle.bodies.specs.Stack.{bodiesOf}
 use Rattle.coding.specs.View.{codingOf, setsAfter}
 use Rattle.coding.specs.declared.reactions.Reacted.{Reacted}
-use Rattle.turns.specs.Turn.{sourceAt, readOn, stepBy, Left, leaves}
+use Rattle.turns.specs.Leaving.{sourceAt, readOn, stepBy, Left, leaves}
 use Rattle.turns.specs.declared.step.Course.{Course}
 use Rattle.turns.specs.declared.step.Course.the-variants.{GoesOn, Ends, Draws}
 use Rattle.turns.specs.declared.step.Progress.{Progress}

@@ -32,7 +32,7 @@ ghost use Rattle.macros.specs.Lent.{Sized, IsName};
 ghost use Rattle.figures.specs.Carried.{carryOut, drawingOf, carriedOf};
 ghost use Rattle.bodies.specs.Stack.{bodiesOf};
 ghost use Rattle.coding.specs.View.{setsAfter};
-ghost use Rattle.turns.specs.Turn.{sourceAt, readOn, stepBy, interpreted, leaves};
+ghost use Rattle.turns.specs.Leaving.{sourceAt, readOn, stepBy, interpreted, leaves};
 ghost use Rattle.turns.specs.View.{stateAt, stepsTo, codingAfter, leftOf, DrawDue, Ready, readOnIf};
 
 // Where a reading stands between two steps. The drawing state and the arrays of the state are lent beside it.

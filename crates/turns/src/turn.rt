@@ -12,16 +12,19 @@ use rules::ROOM_FOR_STEP;
 use rules::Read;
 use rules::Refusal;
 ghost use mathlib.Core.Path.{_≡_};
-ghost use Prim.Native.Nat.{ℕ, _≤_, _<_, _-_};
-ghost use lib.ListN.{length, drop};
-ghost use Rattle.rules.specs.Reading.{consumedBy};
-ghost use Rattle.macros.specs.Lent.{Sized};
 ghost use mathlib.Core.Bool.{true};
 ghost use mathlib.Core.List.{List};
+ghost use Prim.Native.Nat.{ℕ, _≤_, _<_, _-_};
+ghost use lib.ListN.{length, drop};
+ghost use lib.Dec.{ltb};
 ghost use Rattle.rules.specs.declared.Drawing.{Drawing};
+ghost use Rattle.rules.specs.Numbers.{roomForStep};
+ghost use Rattle.rules.specs.Turn.{turn};
+ghost use Rattle.rules.specs.Reading.{consumedBy};
 ghost use Rattle.rules.specs.Ranges.{waitingFits};
+ghost use Rattle.macros.specs.Lent.{Sized};
 ghost use Rattle.bodies.specs.Stack.{bodiesOf};
-ghost use Rattle.turns.specs.Turn.{turn, nothingLeft, nextByte, sourceAt, leaves};
+ghost use Rattle.turns.specs.Leaving.{nothingLeft, nextByte, sourceAt, leaves};
 ghost use Rattle.turns.specs.View.{stateAt, atDepth, leftOf, DrawDue, RoomBy};
 
 fn nothing_left(depth: u8, piece: &[u8], at: usize) -> bool
@@ -84,7 +87,7 @@ pub fn turn(
         → leftOf budget (atDepth (r .progress .depth) progress) r (now (cells .exit)) (now (places .exit))
         (now (firsts .exit)) d (now (store .exit)) out
         ≡ leaves
-        (turn free (budget - progress .steps)
+        (turn (ltb free roomForStep) (budget - progress .steps)
         (stateAt budget progress (now (cells .entry)) (now (places .entry)) (now (firsts .entry)) d (now (store .entry)))
         (drop (progress .at) (now (piece .entry))))
         (progress .at) (progress .written) out) ⌝ }

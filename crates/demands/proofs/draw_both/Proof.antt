@@ -1,3 +1,4 @@
+use Rattle.rules.specs.Calls.{withBudget}
 use Rattle.demands.proofs.DrawLaws.{both-drawn}
 use borrow.Author.Needs.{needs}
 use Rattle.demands.proofs.draw_both.Statement.{statement}
@@ -26,7 +27,7 @@ returns c =
     let args· = c .before .before .before .before .before .before .before .before .before .before .before .before .before .before .before .before .before .before .before .before .before .before .before .before .args in
     let draw-cuts· = c .before .before .before .before .before .before .before .before .before .before .before .draw-cuts in
     let draw-cuts2· = c .before .before .before .before .draw-cuts2 in
-    (draw-cuts· .ensures .0, (draw-cuts2· .ensures .0, both-drawn (args· .budget) (draw-cuts· .ensures .1) (draw-cuts2· .ensures .1)))
+    (draw-cuts· .ensures .0, (draw-cuts2· .ensures .0, both-drawn (withBudget (args· .budget)) (draw-cuts· .ensures .1) (draw-cuts2· .ensures .1)))
 
 pub draw-both-spec : {M : Type 1} → statement M
 draw-both-spec =

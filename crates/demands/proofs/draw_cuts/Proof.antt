@@ -1,4 +1,5 @@
 use denote.Ref.{now}
+use Rattle.rules.specs.Calls.{withBudget}
 use Rattle.demands.proofs.DrawLaws.{drawn}
 use borrow.Author.Needs.{needs}
 use Rattle.demands.proofs.draw_cuts.Statement.{statement}
@@ -25,7 +26,7 @@ returns c =
     let open· = c .before .before .before .before .before .before .before .before .before .before .before .before .before .before .«open» in
     let feed-cuts· = c .before .before .before .before .before .before .before .before .before .feed-cuts in
     let end-done· = c .before .before .end-done in
-    drawn (args· .budget) (now (args· .store)) (now (args· .page)) (now (args· .lengths)) (now (args· .rooms)) (now (args· .out)) _ (open· .result) _ _
+    drawn (withBudget (args· .budget)) (now (args· .store)) (now (args· .page)) (now (args· .lengths)) (now (args· .rooms)) (now (args· .out)) _ (open· .result) _ _
     (open· .ensures) (feed-cuts· .ensures .0) (feed-cuts· .ensures .1) (end-done· .ensures)
 
 pub draw-cuts-spec : {M : Type 1} → statement M
