@@ -4,8 +4,8 @@ use native.Mathlib.Nat.{add-zero}
 use native.Mathlib.Omega.{arith}
 use mathlib.Core.Path.{_≡_, refl, sym, ap, subst}
 use mathlib.Core.Bool.{Bool, true, false}
-use mathlib.Core.List.{List}
-use lib.ListN.{length, getD, set}
+use mathlib.Core.List.{List, []}
+use lib.ListN.{length, drop, getD, set, length-drop}
 use lib.Seq.{set-getD}
 use lib.Dec.{ltb}
 use borrow.Author.Tests.{ltb-true, ltb-false}
@@ -22,11 +22,17 @@ use Rattle.rules.specs.declared.Waiting.{Waiting}
 use Rattle.rules.specs.declared.Waiting.the-variants.{Nothing}
 use Rattle.rules.specs.declared.Status.the-variants.{Running}
 use Rattle.rules.specs.Numbers.{mostBytes, roomForStep}
-use Rattle.rules.specs.Bodies.{bodyAt, depthLeft}
+use Rattle.rules.specs.Bodies.{bodyAt, depthLeft, unspent}
 use Rattle.rules.specs.Coding.{setOf}
 use Rattle.rules.specs.Ranges.{domainFits, colourFits, commandFits, drawingFits}
-use Rattle.rules.specs.Step.{stateOf}
+use Rattle.rules.specs.Drawing.{noOperand, freshDrawing}
+use Rattle.rules.specs.Record.{bytesOfAll}
+use Rattle.rules.specs.Step.{State, stateOf, removeSpent, Source, FromBody, FromPiece}
+use Rattle.rules.specs.Reading.{consumedBy}
 use Rattle.rules.proofs.Bools.{and-left, and-right}
+use Rattle.rules.proofs.Steps.{remove-twice, remove-later}
+use Rattle.rules.proofs.Turns.{turn-advances}
+use Rattle.records.proofs.Writes.{overwrite-length}
 use Rattle.macros.specs.Stretch.{Gives}
 use Rattle.bodies.specs.Stack.{bodiesOf}
 use Rattle.bodies.specs.Calls.{CallsEmpty}
@@ -36,10 +42,10 @@ use Rattle.runs.specs.Strokes.{penAfter}
 use Rattle.coding.specs.View.{codingOf}
 use Rattle.idle.specs.Idle.{Idle, coded}
 use Rattle.idle.specs.declared.Idled.{Idled}
-use Rattle.turns.specs.declared.step.Progress.{Progress}
-use Rattle.turns.specs.View.{atDepth}
-use Rattle.advance.specs.Walk.{Place, placed, placeAt, Walk, none, removed, step, placeAfter, sourceOf, placesAfter, Lies, ranOn, Most, codedOn}
-use Rattle.turns.proofs.TurnLaws.{spent-removed}
+use Rattle.turns.specs.declared.progress.Progress.{Progress}
+use Rattle.turns.specs.Progress.{atDepth, placeAfter, ranOn, codedOn}
+use Rattle.turns.specs.View.{stateAt, NoneSpent}
+use Rattle.advance.specs.Walk.{Place, placed, placeAt, Walk, none, removed, step, Stands, sourceOf, placesAfter, Lies, Most}
 use Rattle.advance.proofs.RunLaws.{run-walk, piece-feeds, body-feeds, idle-walk, calls-walk}
 
 -- A walk after a walk
@@ -49,13 +55,61 @@ walk-then a (removed b) = removed (walk-then a b)
 walk-then a (step b m e) = step (walk-then a b) m e
 
 -- Spent bodies removed
+
+spent-removed : (budget : ℕ) (p : Progress) (cells places firsts : List ℕ) (g : Drawing) (st : List ℕ) (d : ℕ) → d ≡ depthLeft st (bodiesOf (p .depth) cells places) (p .depth)
+    → stateAt budget (atDepth d p) cells places firsts g st ≡ removeSpent (stateAt budget p cells places firsts g st)
+unfolding removeSpent unspent
+spent-removed budget p cells places firsts g st d e = rw e
+
 pub walk-removed : (budget : ℕ) (p : Progress) (cells places firsts : List ℕ) (g : Drawing) (st piece out : List ℕ)
     → (d : ℕ) → d ≡ depthLeft st (bodiesOf (p .depth) cells places) (p .depth) → (q : Progress) → q ≡ atDepth d p
     → Walk piece (placeAt budget p cells places firsts g st out) (placeAt budget q cells places firsts g st out)
 walk-removed budget p cells places firsts g st piece out d e q f =
-    rw f (subst (Walk piece (placeAt budget p cells places firsts g st out))
-    (ap (λ w. record { state = w; at = p .at; written = p .written; output = out }) (sym (spent-removed budget p cells places firsts g st piece out 0 d e (atDepth d p) refl)))
-    (removed none))
+    rw f
+    (subst (λ (w : State). Walk piece (placeAt budget p cells places firsts g st out) (placed w (p .at) (p .written) out))
+    (sym (spent-removed budget p cells places firsts g st d e)) (removed none))
+
+pub removed-once : (p : Progress) (cells places st : List ℕ) (d : ℕ) → d ≡ depthLeft st (bodiesOf (p .depth) cells places) (p .depth) → NoneSpent d cells places st
+unfolding removeSpent unspent
+removed-once p cells places st d e = rw e (ap (λ (w : State). w .session .bodies .depth) (remove-twice (stateAt 0 p cells places [] freshDrawing st)))
+
+pub none-runs : (d : ℕ) (cells places st : List ℕ) → d ≡ 0 → NoneSpent d cells places st
+unfolding depthLeft
+none-runs d cells places st e = rw e
+
+-- A walk leads from where a reading may stand to where it may stand
+consumed-within : (s : Source) (n : ℕ) (l : List ℕ) → n ≤ length l → consumedBy s 0 ≤ length (drop n l) → consumedBy s n ≤ length l
+consumed-within FromBody n l h k = h
+consumed-within FromPiece n l h k = let e = length-drop n l in omega arith
+
+pub walk-stands : {piece : List ℕ} {x y : Place} → Walk piece x y → Stands piece x → Stands piece y
+walk-stands none h = h
+walk-stands (removed {y} a) h =
+    let j = walk-stands a h in
+    record { sound = remove-later (y .state) .valid (j .sound); on = j .on; within = j .within }
+walk-stands {piece} (step {y} {n} {t} a b e) h =
+    let j = walk-stands a h in
+    let f = turn-advances (y .state) (drop (y .at) piece) (j .sound) (ltb (length (y .output) - y .written) roomForStep) e in
+    let bs = bytesOfAll (t .records) in
+    let few = f .few in
+    let free = ltb-false (length (y .output) - y .written) roomForStep (f .free) in
+    let room : y .written + length bs ≤ length (y .output) = omega arith in
+    let long = overwrite-length bs (y .output) (y .written) room in
+    record {
+      sound = f .later .valid (j .sound);
+      on = consumed-within (t .source) (y .at) piece (j .on) (f .some);
+      within = omega (arith, long, room);
+    }
+
+-- No step is taken back along a walk
+pub walk-steps : {piece : List ℕ} {x y : Place} → Walk piece x y → Stands piece x → x .state .session .steps ≤ y .state .session .steps
+unfolding removeSpent
+walk-steps none h = omega arith
+walk-steps (removed a) h = walk-steps a h
+walk-steps {piece} (step {y} a b e) h =
+    let k = walk-steps a h in
+    let n = turn-advances (y .state) (drop (y .at) piece) (walk-stands a h .sound) (ltb (length (y .output) - y .written) roomForStep) e .later .steps in
+    omega arith
 
 -- The bytes read of a cell, with its place
 counted : (place from end to n : ℕ) → (from < end → place + end ≤ from + mostBytes) → to ≤ end → from + n ≤ to → place < 256 → (place + n < 256) × (n < 256)
@@ -134,6 +188,10 @@ pub past-body : (d n : ℕ) (places : List ℕ) → (d ≡ 0 → ⊥) → set pl
 past-body zero n places h = absurd (h refl)
 past-body (suc i) n places h = let one : suc i - 1 ≡ i = omega arith in rw one
 
+pub past-none : (d n : ℕ) (places : List ℕ) → n ≡ 0 → placesAfter d n places ≡ places
+past-none zero n places e = refl
+past-none (suc i) n places e = rw (e, add-zero (getD places i 0)) (set-getD places i 0)
+
 -- A run of no bytes
 run-zero : {s : Set} {bytes : List ℕ} {from n : ℕ} {x y : Carried} → Run s bytes from x n y → n ≡ 0 → x ≡ y
 run-zero run-none e = refl
@@ -141,10 +199,10 @@ run-zero (run-more r acts room drew) e = absurd (omega (arith, e))
 
 pub run-still : {s : Set} {bytes : List ℕ} {from n at at₁ : ℕ} {pen pen₁ : Pen} {command command₁ : Command} {look : Look} {map out out₁ : List ℕ}
     → Run s bytes from (standing pen command look map at out) n (standing pen₁ command₁ look map at₁ out₁) → n ≡ 0
-    → (at₁ ≡ at) × (pen₁ ≡ pen) × (command₁ ≡ command)
+    → (at₁ ≡ at) × (pen₁ ≡ pen) × (command₁ ≡ command) × (out₁ ≡ out)
 run-still r e =
     let q = sym (run-zero r e) in
-    (ap (λ (c : Carried). c .at) q, ap (λ (c : Carried). c .drawing .pen) q, ap (λ (c : Carried). c .drawing .command) q)
+    (ap (λ (c : Carried). c .at) q, ap (λ (c : Carried). c .drawing .pen) q, ap (λ (c : Carried). c .drawing .command) q, ap (λ (c : Carried). c .output) q)
 
 -- Bytes drawn
 module _ (budget : ℕ) (p : Progress) (cells places firsts : List ℕ) (pen : Pen) (command : Command) (look : Look) (map st piece out : List ℕ)
@@ -156,22 +214,22 @@ module _ (budget : ℕ) (p : Progress) (cells places firsts : List ℕ) (pen : P
     abbrev here : Place
     here = placeAt budget p cells places firsts (drawingOf pen command look map) st out
 
-    abbrev Source : ℕ → Type 0
-    Source d = Run (setOf (p .sets .used) (p .sets)) (sourceOf d piece st) from (standing pen command look map (p .written) out) n (standing pen₁ command₁ look map at out₁)
+    abbrev RunFrom : ℕ → Type 0
+    RunFrom d = Run (setOf (p .sets .used) (p .sets)) (sourceOf d piece st) from (standing pen command look map (p .written) out) n (standing pen₁ command₁ look map at out₁)
 
     abbrev there : ℕ → Place
     there d =
         placed (stateOf budget (p .steps + n) Running (bodiesOf d cells (placesAfter d n places)) (codingOf (p .sets) (p .waiting) firsts) (drawingOf pen₁ command₁ look map) st)
         (placeAfter d n (p .at)) at out₁
 
-    walk-piece : Source 0 → Lies 0 (p .at) cells places st piece from to
+    walk-piece : RunFrom 0 → Lies 0 (p .at) cells places st piece from to
         → Walk piece (placed (stateOf budget (p .steps) Running (bodiesOf 0 cells places) (codingOf (p .sets) (p .waiting) firsts) (drawingOf pen command look map) st) (p .at) (p .written) out) (there 0)
     walk-piece r h =
         let on : from + n ≤ length piece = omega (arith, h .within) in
         let w = run-walk (piece-feeds piece from n cells places st on) budget (p .steps) (codingOf (p .sets) (p .waiting) firsts) waits (omega arith) r (omega arith) in
         rw (h .start refl, add-zero (p .steps), add-zero (p .at)) at w
 
-    walk-body : (i : ℕ) → Source (suc i) → Lies (suc i) (p .at) cells places st piece from to
+    walk-body : (i : ℕ) → RunFrom (suc i) → Lies (suc i) (p .at) cells places st piece from to
         → Walk piece (placed (stateOf budget (p .steps) Running (bodiesOf (suc i) cells places) (codingOf (p .sets) (p .waiting) firsts) (drawingOf pen command look map) st) (p .at) (p .written) out) (there (suc i))
     walk-body i r h =
         let x = bodyAt (bodiesOf (suc i) cells places) i in
@@ -187,7 +245,7 @@ module _ (budget : ℕ) (p : Progress) (cells places firsts : List ℕ) (pen : P
         (subst (λ (x : List ℕ). Run (setOf (p .sets .used) (p .sets)) x from (standing pen command look map (p .written) out) n (standing pen₁ command₁ look map at out₁)) source
         (subst (λ (x : Set). Run x bytes from (standing pen command look map (p .written) out) n (standing pen₁ command₁ look map at out₁)) used run)) h)
       where
-        by : (d : ℕ) → Source d → Lies d (p .at) cells places st piece from to
+        by : (d : ℕ) → RunFrom d → Lies d (p .at) cells places st piece from to
             → Walk piece (placed (stateOf budget (p .steps) Running (bodiesOf d cells places) (codingOf (p .sets) (p .waiting) firsts) (drawingOf pen command look map) st) (p .at) (p .written) out) (there d)
         by zero r l = walk-piece r l
         by (suc i) r l = walk-body i r l
@@ -225,21 +283,29 @@ valid-command g h = and-left (commandFits (g .command)) _ (and-right (colourFits
 pub coded-most : (p : Progress) (to n d : ℕ) (s : Sets) (x : Waiting) (r : Progress) → r ≡ codedOn n d s x p → p .at + n ≤ to → r .steps - p .steps ≤ to - p .at
 coded-most p to n d s x r e h = rw e (omega arith)
 
+-- A run of some bytes is some steps
+pub coded-more : (p : Progress) (n d : ℕ) (s : Sets) (x : Waiting) (r : Progress) → r ≡ codedOn n d s x p → (n ≡ 0 → ⊥) → r .steps ≤ p .steps → ⊥
+coded-more p n d s x r e h l = let m : p .steps + n ≤ p .steps = rw e at l in h (omega (arith, m))
+
 -- The place of the piece after a run
-pub placed-piece : (d n at : ℕ) → d ≡ 0 → at + n ≡ placeAfter d n at
-placed-piece d n at h = rw h
-
-pub after-body : (d n at : ℕ) → (d ≡ 0 → ⊥) → placeAfter d n at ≡ at
-after-body zero n at h = absurd (h refl)
-after-body (suc i) n at h = refl
-
 pub after-same : (d at : ℕ) → placeAfter d 0 at ≡ at
 after-same zero at = add-zero at
 after-same (suc i) at = refl
 
+-- The pen after strokes rests at their last point
+pub pen-rests : (pen : Pen) (n : ℕ) (q : Point) → 0 < n → record { point = q; operand = noOperand } ≡ penAfter n pen q
+pen-rests pen zero q h = absurd (omega (arith, h))
+pen-rests pen (suc n) q h = refl
+
+-- A run of no bytes leads nowhere
+pub walk-still : (budget : ℕ) (p : Progress) (cells places firsts : List ℕ) (pen : Pen) (command : Command) (look : Look) (map st out : List ℕ) {piece : List ℕ} {x : Place}
+    → (n written : ℕ) (pen₁ : Pen) (command₁ : Command) → n ≡ 0 → written ≡ p .written → pen₁ ≡ pen → command₁ ≡ command
+    → Walk piece x (placeAt budget (ranOn n written p) cells places firsts (drawingOf pen₁ command₁ look map) st out)
+    → Walk piece x (placeAt budget p cells places firsts (drawingOf pen command look map) st out)
+walk-still budget p cells places firsts pen command look map st out n written pen₁ command₁ e f g h w =
+    rw (e, f, g, h, after-same (p .depth) (p .at), add-zero (p .steps)) at w
+
 -- No byte is drawn
-pub pen-none : (pen : Pen) (n : ℕ) (q : Point) → n ≡ 0 → penAfter n pen q ≡ pen
-pen-none pen n q e = rw e
 
 pub none-walk : (budget : ℕ) (p : Progress) (cells places firsts : List ℕ) (pen : Pen) (command : Command) (look : Look) (map st piece out : List ℕ)
     → (n written : ℕ) (pen₁ : Pen) (command₁ : Command) → n ≡ 0 → written ≡ p .written → pen₁ ≡ pen → command₁ ≡ command

@@ -12,13 +12,16 @@ use Rattle.rules.specs.Bodies.{bodyAt}
 use Rattle.rules.specs.Record.{bytesOfAll}
 use Rattle.rules.specs.Step.{State, removeSpent}
 use Rattle.rules.specs.Turn.{Taken, Takes, turn}
-use Rattle.rules.specs.Reading.{consumedBy}
+use Rattle.rules.specs.Reading.{consumedBy, Valid}
 use Rattle.records.specs.Bytes.{overwrite}
 use Rattle.macros.specs.Lent.{Sized}
 use Rattle.macros.specs.Stretch.{Gives}
 use Rattle.bodies.specs.Stack.{bodiesOf}
-use Rattle.turns.specs.declared.step.Progress.{Progress}
+use Rattle.figures.specs.Carried.{drawingOf}
+use Rattle.turns.specs.declared.progress.Progress.{Progress}
+use Rattle.turns.specs.Progress.{placeAfter}
 use Rattle.turns.specs.View.{stateAt}
+use Rattle.turns.specs.declared.progress.Reached.{Reached}
 
 -- Where a reading stands: its state, the place of the piece, the place of the output, and the output
 pub record Place : Type 0 where
@@ -33,6 +36,10 @@ placed w at written out = record { state = w; at = at; written = written; output
 abbrev pub placeAt : ℕ → Progress → List ℕ → List ℕ → List ℕ → Drawing → List ℕ → List ℕ → Place
 placeAt budget p cells places firsts d st out = placed (stateAt budget p cells places firsts d st) (p .at) (p .written) out
 
+abbrev pub reachedAt : ℕ → Reached → List ℕ → List ℕ → List ℕ → List ℕ → List ℕ → List ℕ → Place
+reachedAt budget r cells places firsts map st out =
+    placeAt budget (r .progress) cells places firsts (drawingOf (r .pen) (r .command) (r .look) map) st out
+
 -- What is left to do of the budget
 abbrev pub budgetLeft : State → ℕ
 budgetLeft w = w .session .budget - w .session .steps
@@ -46,17 +53,18 @@ pub data Walk (piece : List ℕ) (x : Place) : Place → Type 0 where
       (placed (t .after) (consumedBy (t .source) (y .at)) (y .written + length (bytesOfAll (t .records)))
       (overwrite (y .written) (bytesOfAll (t .records)) (y .output)))
 
+-- What is asked of where a reading stands: the state passes the tests before a feed, and the places are within the piece and the output
+pub record Stands (piece : List ℕ) (x : Place) : Type 0 where
+  pub sound : Valid (x .state)
+  pub on : x .at ≤ length piece
+  pub within : x .written ≤ length (x .output)
+
 -- What is asked of a progress that runs begin from
 pub record Fit (p : Progress) (st piece out : List ℕ) : Type 0 where
   pub store : Sized st
   pub depth : p .depth ≤ 8
   pub on : p .at ≤ length piece
   pub within : p .written ≤ length out
-
--- The place of the piece after so many bytes, of a body or of the piece
-abbrev pub placeAfter : ℕ → ℕ → ℕ → ℕ
-placeAfter zero n at = at + n
-placeAfter (suc i) n at = at
 
 -- The bytes that a run reads from: the piece where no body runs, else the store
 abbrev pub sourceOf : ℕ → List ℕ → List ℕ → List ℕ
@@ -80,30 +88,6 @@ pub record Lies (d at : ℕ) (cells places st piece : List ℕ) (from to : ℕ) 
   pub passes : (n : ℕ) → from + n ≤ to → Passes d n places
   pub gives : (i : ℕ) → d ≡ suc i → (k : ℕ) → from + k < to → Gives st (bodyAt (bodiesOf (suc i) cells places) i) from k
 
--- The progress after a run of so many drawn bytes, with the place after their records
-abbrev pub ranOn : ℕ → ℕ → Progress → Progress
-ranOn n written p =
-    record {
-      at = placeAfter (p .depth) n (p .at);
-      written = written;
-      steps = p .steps + n;
-      depth = p .depth;
-      sets = p .sets;
-      waiting = p .waiting;
-    }
-
 -- So many bytes are not more than the budget and the piece have
 abbrev pub Most : ℕ → ℕ → Progress → List ℕ → Type 0
 Most n budget p piece = (n ≤ budget - p .steps) × (placeAfter (p .depth) n (p .at) ≤ length piece) × (p .steps + n ≤ 4294967295)
-
--- After a run of bytes of the piece that write no record
-abbrev pub codedOn : ℕ → ℕ → Sets → Waiting → Progress → Progress
-codedOn n d s x p =
-    record {
-      at = p .at + n;
-      written = p .written;
-      steps = p .steps + n;
-      depth = d;
-      sets = s;
-      waiting = x;
-    }

@@ -9,10 +9,10 @@ use idle::run_idle;
 use rules::Cursor;
 use rules::ROOM_FOR_STEP;
 use rules::Set;
-use rules::Sets;
 use rules::Waiting;
-use turns::step::Progress;
-use turns::turn::at_depth;
+use turns::progress::Progress;
+use turns::progress::after_coding;
+use turns::progress::at_depth;
 ghost use mathlib.Core.Path.{_≡_};
 ghost use mathlib.Core.Bool.{true};
 ghost use mathlib.Core.List.{List};
@@ -23,28 +23,8 @@ ghost use Rattle.rules.specs.declared.Drawing.{Drawing};
 ghost use Rattle.rules.specs.Coding.{setOf};
 ghost use Rattle.rules.specs.Ranges.{waitingFits};
 ghost use Rattle.macros.specs.Lent.{Sized};
-ghost use Rattle.advance.specs.Walk.{placeAt, Walk, codedOn};
-
-// The progress after so many bytes of the piece that write no record.
-fn after_coding(
-    progress: Progress,
-    count: usize,
-    depth: u8,
-    sets: Sets,
-    waiting: Waiting,
-) -> Progress
-    requires { ⌜ (progress .steps + count ≤ 4294967295) × (progress .at + count ≤ 18446744073709551615) ⌝ }
-    ensures { λ r. ⌜ r ≡ codedOn count depth sets waiting progress ⌝ }
-{
-    Progress {
-        at: progress.at + count,
-        written: progress.written,
-        sets,
-        waiting,
-        steps: progress.steps + (count as u32),
-        depth,
-    }
-}
+ghost use Rattle.turns.specs.View.{NoneSpent};
+ghost use Rattle.advance.specs.Walk.{placeAt, Walk};
 
 // Calls of empty bodies from the piece. Each is removed before the next step.
 fn call_piece(
@@ -64,6 +44,7 @@ fn call_piece(
         (placeAt budget progress (now (cells .entry)) (now (places .entry)) (now (firsts .entry)) d st out)
         (placeAt budget r (now (cells .exit)) (now (places .exit)) (now (firsts .entry)) d st out)) ⌝ }
     ensures most { λ r. ⌜ r .steps - progress .steps ≤ to - progress .at ⌝ }
+    ensures still { λ r. ⌜ (r .steps ≤ progress .steps → r .depth ≡ 0) ⌝ }
 {
     let at = progress.at;
     let count = empty_calls(firsts, piece, at, to);
@@ -92,6 +73,7 @@ fn idle_piece(
         (placeAt budget progress cells places (now (firsts .entry)) d (now (store .entry)) out)
         (placeAt budget r cells places (now (firsts .exit)) d (now (store .exit)) out)) ⌝ }
     ensures most { λ r. ⌜ r .steps - progress .steps ≤ to - progress .at ⌝ }
+    ensures still { λ r. ⌜ (r .steps ≤ progress .steps → r .depth ≡ 0) ⌝ }
 {
     let at = progress.at;
     let sets = progress.sets;
@@ -119,6 +101,7 @@ fn names_piece(
         (placeAt budget progress (now (cells .entry)) (now (places .entry)) (now (firsts .entry)) d st out)
         (placeAt budget r (now (cells .exit)) (now (places .exit)) (now (firsts .entry)) d st out)) ⌝ }
     ensures most { λ r. ⌜ r .steps - progress .steps ≤ to - progress .at ⌝ }
+    ensures still { λ r. ⌜ (r .steps ≤ progress .steps → r .depth ≡ 0) ⌝ }
 {
     if let Set::Macro = set_read(progress) {
         return call_piece(progress, to, cells, places, firsts, piece);
@@ -137,13 +120,16 @@ fn code_piece(
     store: &mut [u8],
     piece: &[u8],
 ) -> Progress
-    requires { ⌜ (Sized (now store)) × (waitingFits (progress .waiting) ≡ true) × (progress .at ≤ length (now piece)) ⌝ }
+    requires { ⌜ (Sized (now store)) × (waitingFits (progress .waiting) ≡ true) × (progress .at ≤ length (now piece))
+        × NoneSpent (progress .depth) (now cells) (now places) (now store) ⌝ }
     ensures walk { λ r. ⌜ ((d : Drawing) (out : List ℕ) → free ≡ length out - progress .written
         → Walk (now (piece .entry))
         (placeAt budget progress (now (cells .entry)) (now (places .entry)) (now (firsts .entry)) d (now (store .entry))
         out)
         (placeAt budget r (now (cells .exit)) (now (places .exit)) (now (firsts .exit)) d (now (store .exit)) out)) ⌝ }
     ensures most { λ r. ⌜ r .steps - progress .steps ≤ budget - progress .steps ⌝ }
+    ensures spent { λ r. ⌜ (r .steps ≤ progress .steps
+        → NoneSpent (r .depth) (now (cells .exit)) (now (places .exit)) (now (store .exit))) ⌝ }
 {
     if progress.depth != 0 {
         return progress;
@@ -163,7 +149,7 @@ fn code_piece(
     idle_piece(progress, to, firsts, store, piece)
 }
 
-// The same after spent bodies are removed.
+// The same once spent bodies are removed.
 pub fn run_coded(
     progress: Progress,
     budget: u32,
@@ -182,6 +168,8 @@ pub fn run_coded(
         out)
         (placeAt budget r (now (cells .exit)) (now (places .exit)) (now (firsts .exit)) d (now (store .exit)) out)) ⌝ }
     ensures most { λ r. ⌜ r .steps - progress .steps ≤ budget - progress .steps ⌝ }
+    ensures spent { λ r. ⌜ (r .steps ≤ progress .steps
+        → NoneSpent (r .depth) (now (cells .exit)) (now (places .exit)) (now (store .exit))) ⌝ }
 {
     let depth = depth_left(store, cells, places, progress.depth);
     let progress = at_depth(progress, depth);

@@ -4,6 +4,7 @@ use crate::reach;
 use crate::set_read;
 use bodies::body_at;
 use commands::run_commands;
+use drawing::operands::resting;
 use macros::cursors::Stretch;
 use macros::cursors::stretch_of;
 use rules::Command;
@@ -11,14 +12,11 @@ use rules::Look;
 use rules::Pen;
 use rules::Repertoire;
 use rules::Set;
-use rules::Waiting;
 use runs::Ran;
-use runs::strokes;
-use runs::strokes::Lined;
-use runs::strokes::is_stroke;
+use runs::strokes::draw_strokes;
 use runs::text::run_text;
 use tables::controls::is_recorded;
-use turns::step::Progress;
+use turns::progress::Progress;
 ghost use mathlib.Core.Path.{_≡_};
 ghost use mathlib.Core.Bool.{true};
 ghost use mathlib.Core.List.{List};
@@ -29,8 +27,8 @@ ghost use Rattle.rules.specs.Ranges.{domainFits, commandFits};
 ghost use Rattle.macros.specs.Lent.{Sized};
 ghost use Rattle.figures.specs.Carried.{drawingOf};
 ghost use Rattle.runs.specs.Run.{Run, standing};
-ghost use Rattle.runs.specs.Strokes.{penAfter};
-ghost use Rattle.advance.specs.Walk.{placeAt, Walk, Fit, sourceOf, Lies, Passes, placesAfter, placeAfter, ranOn, Most};
+ghost use Rattle.turns.specs.Progress.{ranOn};
+ghost use Rattle.advance.specs.Walk.{placeAt, Walk, Fit, sourceOf, Lies, Passes, placesAfter, Most};
 
 fn none_drawn(pen: Pen, command: Command, at: usize) -> Ran
     ensures { λ r. ⌜ r ≡ record { count = 0; at = at; pen = pen; command = command } ⌝ }
@@ -43,7 +41,7 @@ fn none_drawn(pen: Pen, command: Command, at: usize) -> Ran
     }
 }
 
-// PDI bytes, where no operand is begun.
+// PDI bytes, where no operand is begun: many points of one stroke, whose loop is the shortest, else whole commands.
 fn draw_pdi(
     pen: Pen,
     command: Command,
@@ -63,6 +61,15 @@ fn draw_pdi(
 {
     if pen.operand.count != 0 {
         return none_drawn(pen, command, at);
+    }
+    let lined = draw_strokes(pen, command, look, bytes, from, to, out, at);
+    if 0 < lined.count {
+        return Ran {
+            count: lined.count,
+            at: lined.at,
+            pen: resting(lined.point),
+            command,
+        };
     }
     run_commands(pen, command, look, bytes, from, to, out, at)
 }
@@ -191,33 +198,6 @@ fn read_past(depth: u8, count: usize, places: &mut [u8; 8])
     places[index] = places[index] + (count as u8);
 }
 
-// Whether points of POINT SET or LINE, absolute, may be read.
-fn strokes_open(progress: Progress, opcode: u8) -> bool
-    ensures { λ r. ⌜ (r ≡ true → (progress .waiting ≡ Waiting.Nothing) × (setOf (progress .sets .used) (progress .sets) ≡ Set.Pdi)) ⌝ }
-{
-    if !is_stroke(opcode) {
-        return false;
-    }
-    let waiting = progress.waiting;
-    if !awaits_nothing(waiting) {
-        return false;
-    }
-    if let Set::Pdi = set_read(progress) {
-        return true;
-    }
-    false
-}
-
-// A run of strokes can only begin with data.
-fn begins_with_data(bytes: &[u8], from: usize, to: usize) -> bool
-    requires { ⌜ to ≤ length (now bytes) ⌝ }
-{
-    if to <= from {
-        return false;
-    }
-    64 <= bytes[from]
-}
-
 // A control that is not recorded draws nothing.
 fn begins_drawn(bytes: &[u8], from: usize, to: usize) -> bool
     requires { ⌜ to ≤ length (now bytes) ⌝ }
@@ -226,54 +206,6 @@ fn begins_drawn(bytes: &[u8], from: usize, to: usize) -> bool
         return false;
     }
     32 <= bytes[from] || is_recorded(bytes[from])
-}
-
-fn no_strokes(pen: Pen, at: usize) -> Lined
-    ensures { λ r. ⌜ r ≡ record { count = 0; at = at; point = pen .point } ⌝ }
-{
-    let point = pen.point;
-    Lined {
-        count: 0,
-        at,
-        point,
-    }
-}
-
-// Points of POINT SET and LINE, of the innermost body, else of the piece. The command stays as it is.
-pub fn run_strokes<'a>(
-    progress: Progress,
-    pen: Pen,
-    command: Command,
-    look: Look,
-    budget: u32,
-    cells: &[u8; 8],
-    places: &mut [u8; 8],
-    store: &'a [u8],
-    piece: &'a [u8],
-    out: &mut [u8],
-) -> Lined
-    requires { ⌜ Fit progress (now store) (now piece) (now out) ⌝ }
-    ensures walk { λ r. ⌜ ((firsts map : List ℕ)
-        → Walk (now (piece .entry))
-        (placeAt budget progress (now (cells .entry)) (now (places .entry)) firsts (drawingOf pen command look map)
-        (now (store .entry)) (now (out .entry)))
-        (placeAt budget (ranOn (r .count) (r .at) progress) (now (cells .entry)) (now (places .exit)) firsts
-        (drawingOf (penAfter (r .count) pen (r .point)) command look map) (now (store .entry)) (now (out .exit)))) ⌝ }
-    ensures most { λ r. ⌜ Most (r .count) budget progress (now (piece .entry)) ⌝ }
-    ensures still { λ r. ⌜ (r .count ≡ 0 → r .at ≡ progress .written) ⌝ }
-{
-    if !strokes_open(progress, command.opcode) {
-        return no_strokes(pen, progress.written);
-    }
-    let next = bytes_next(progress, budget, cells, places, store, piece);
-    let bytes = source_of(progress.depth, piece, store);
-    if !begins_with_data(bytes, next.from, next.to) {
-        return no_strokes(pen, progress.written);
-    }
-    let at = progress.written;
-    let ran = strokes::draw_strokes(pen, command, look, bytes, next.from, next.to, out, at);
-    read_past(progress.depth, ran.count, places);
-    ran
 }
 
 // Bytes that are drawn, of the innermost body, else of the piece.
@@ -297,7 +229,8 @@ pub fn run_drawn<'a>(
         (placeAt budget (ranOn (r .count) (r .at) progress) (now (cells .entry)) (now (places .exit)) firsts
         (drawingOf (r .pen) (r .command) look map) (now (store .entry)) (now (out .exit)))) ⌝ }
     ensures most { λ r. ⌜ Most (r .count) budget progress (now (piece .entry)) ⌝ }
-    ensures still { λ r. ⌜ (r .count ≡ 0 → (r .at ≡ progress .written) × (r .pen ≡ pen) × (r .command ≡ command)) ⌝ }
+    ensures still { λ r. ⌜ (r .count ≡ 0 → (r .at ≡ progress .written) × (r .pen ≡ pen) × (r .command ≡ command)
+        × (now (places .exit) ≡ now (places .entry))) ⌝ }
 {
     let waiting = progress.waiting;
     if !awaits_nothing(waiting) {
@@ -313,19 +246,4 @@ pub fn run_drawn<'a>(
     let ran = draw_set(set, pen, command, look, bytes, next.from, next.to, out, at);
     read_past(progress.depth, ran.count, places);
     ran
-}
-
-// The progress after a run of so many drawn bytes, their records written up to a place.
-pub fn after_run(progress: Progress, count: usize, written: usize) -> Progress
-    requires { ⌜ (progress .steps + count ≤ 4294967295) × (placeAfter (progress .depth) count (progress .at) ≤ 18446744073709551615) ⌝ }
-    ensures { λ r. ⌜ r ≡ ranOn count written progress ⌝ }
-{
-    let mut progress = progress;
-    progress.written = written;
-    progress.steps = progress.steps + (count as u32);
-    if progress.depth == 0 {
-        progress.at = progress.at + count;
-        return progress;
-    }
-    progress
 }

@@ -1,11 +1,12 @@
 // Runs: consecutive bytes read at once, beside the turns of a reading. A run may end before any byte, since a turn follows.
 pub mod coded;
 pub mod drawn;
+pub mod run;
 
 use rules::Set;
 use rules::Waiting;
 use tables::sets::set_of;
-use turns::step::Progress;
+use turns::progress::Progress;
 ghost use mathlib.Core.Path.{_≡_};
 ghost use mathlib.Core.Bool.{true};
 ghost use Prim.Native.Nat.{_-_, _≤_};

@@ -15,7 +15,7 @@ use Rattle.rules.specs.declared.Class.{Class}
 use Rattle.rules.specs.declared.Class.the-variants.{Below, Column2, Above}
 use Rattle.rules.specs.declared.Coding.{Coding}
 use Rattle.rules.specs.declared.Definition.{Definition}
-use Rattle.rules.specs.declared.Element.{Element}
+use Rattle.rules.specs.declared.Set.{Set}
 use Rattle.rules.specs.declared.Refusal.the-variants.{ByteOver127}
 use Rattle.rules.specs.declared.Sets.{Sets}
 use Rattle.rules.specs.declared.Waiting.{Waiting}
@@ -23,7 +23,7 @@ use Rattle.rules.specs.declared.Waiting.the-variants.{Nothing, Shifted, Escape,
 use Rattle.rules.specs.Coding.{Refuse, classOf, reactTo, react}
 use Rattle.rules.specs.Ranges.{nameFits, waitingFits}
 use Rattle.macros.specs.Lent.{IsName}
-use Rattle.coding.specs.View.{codingOf, setsAfter, elementRead, readFrom}
+use Rattle.coding.specs.View.{codingOf, setsAfter, elementRead, setRead, readFrom}
 use Rattle.coding.specs.declared.reactions.Effect.{Effect}
 use Rattle.coding.specs.declared.reactions.Effect.the-variants.{Refuses, Calls, Acts, Uses, Designates}
 
@@ -76,25 +76,25 @@ others-use Name s h = refl
 others-use (Body d) s h = refl
 others-use (BodyEscape d) s h = refl
 
--- Outside escape sequences and definitions the byte is read from that element
+-- Outside escape sequences and definitions the byte is read from its set
 abbrev no-sequence : List ℕ
 no-sequence = 0 ∷ 1 ∷ []
 
-pub others-read : (w : Waiting) (e : Element) (k : Class) (c : Coding) (st : List ℕ) (b : ℕ) → OneOf no-sequence (tagOf the-waiting w)
-    → e ≡ elementRead w (c .sets) → readFrom e k c st b ≡ reactTo w k c st b
+pub others-read : (w : Waiting) (x : Set) (k : Class) (c : Coding) (st : List ℕ) (b : ℕ) → OneOf no-sequence (tagOf the-waiting w)
+    → x ≡ setRead w (c .sets) → readFrom x k c st b ≡ reactTo w k c st b
 unfolding elementRead readFrom reactTo
-others-read Nothing e (Below k) c st b h q = refl
-others-read Nothing e Column2 c st b h q = rw q
-others-read Nothing e Above c st b h q = rw q
-others-read (Shifted s) e (Below k) c st b h q = refl
-others-read (Shifted s) e Column2 c st b h q = rw q
-others-read (Shifted s) e Above c st b h q = rw q
-others-read Escape e k c st b h q = absurd (miss no-sequence 2 tt h)
-others-read (Designator x) e k c st b h q = absurd (miss no-sequence 3 tt h)
-others-read Longer e k c st b h q = absurd (miss no-sequence 4 tt h)
-others-read Name e k c st b h q = absurd (miss no-sequence 5 tt h)
-others-read (Body d) e k c st b h q = absurd (miss no-sequence 6 tt h)
-others-read (BodyEscape d) e k c st b h q = absurd (miss no-sequence 7 tt h)
+others-read Nothing x (Below k) c st b h q = refl
+others-read Nothing x Column2 c st b h q = rw q
+others-read Nothing x Above c st b h q = rw q
+others-read (Shifted s) x (Below k) c st b h q = refl
+others-read (Shifted s) x Column2 c st b h q = rw q
+others-read (Shifted s) x Above c st b h q = rw q
+others-read Escape x k c st b h q = absurd (miss no-sequence 2 tt h)
+others-read (Designator e) x k c st b h q = absurd (miss no-sequence 3 tt h)
+others-read Longer x k c st b h q = absurd (miss no-sequence 4 tt h)
+others-read Name x k c st b h q = absurd (miss no-sequence 5 tt h)
+others-read (Body d) x k c st b h q = absurd (miss no-sequence 6 tt h)
+others-read (BodyEscape d) x k c st b h q = absurd (miss no-sequence 7 tt h)
 
 -- A byte over 127, and any other
 pub over : (c : Coding) (st : List ℕ) (b : ℕ) → 127 < b → Refuse ByteOver127 ≡ react c st b

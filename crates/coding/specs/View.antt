@@ -3,6 +3,7 @@ use Prim.Native.Nat.{ℕ}
 use mathlib.Core.List.{List}
 use mathlib.Core.Path.{_≡_}
 use Rattle.rules.specs.declared.Element.{Element}
+use Rattle.rules.specs.declared.Set.{Set}
 use Rattle.rules.specs.declared.Sets.{Sets}
 use Rattle.rules.specs.declared.Waiting.{Waiting}
 use Rattle.rules.specs.declared.Waiting.the-variants.{Nothing, Shifted, Escape, Designator, Longer, Name, Body, BodyEscape}
@@ -61,8 +62,12 @@ elementRead Name s = s .used
 elementRead (Body d) s = s .used
 elementRead (BodyEscape d) s = s .used
 
--- A byte that is read from a code element
-unfoldable pub readFrom : Element → Class → Coding → List ℕ → ℕ → Reaction
-readFrom e (Below k) c st b = control k (wait Nothing c) st b
-readFrom e Column2 c st b = graphic (setOf e (c .sets)) (wait Nothing c) st b
-readFrom e Above c st b = graphic (setOf e (c .sets)) (wait Nothing c) st b
+-- and the set that it names
+abbrev pub setRead : Waiting → Sets → Set
+setRead w s = setOf (elementRead w s) s
+
+-- A byte that is read from a set
+unfoldable pub readFrom : Set → Class → Coding → List ℕ → ℕ → Reaction
+readFrom x (Below k) c st b = control k (wait Nothing c) st b
+readFrom x Column2 c st b = graphic x (wait Nothing c) st b
+readFrom x Above c st b = graphic x (wait Nothing c) st b

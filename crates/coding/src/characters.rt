@@ -8,14 +8,12 @@ use crate::reactions::wait_for;
 use rules::Action;
 use rules::Class;
 use rules::Control;
-use rules::Element;
 use rules::Refusal;
 use rules::Set;
 use rules::Sets;
 use rules::Waiting;
 use tables::controls::class_of;
 use tables::sets::character;
-use tables::sets::set_of;
 ghost use mathlib.Core.List.{List};
 ghost use mathlib.Core.Path.{_≡_};
 ghost use Prim.Native.Nat.{ℕ};
@@ -55,14 +53,14 @@ fn graphic(set: Set, byte: u8) -> Reacted
     }
 }
 
-// A byte read by itself: a control, or one of the set that the element names. A control drops the single shift.
-pub(crate) fn read_from(element: Element, sets: Sets, byte: u8) -> Reacted
-    ensures { λ r. ⌜ ((w : Waiting) (f st : List ℕ)
-        → reactionOf sets r f st ≡ readFrom element (classOf byte) (codingOf sets w f) st byte) ⌝ }
+// A byte read by itself: a control, or one of the set. A control drops the single shift.
+pub(crate) fn read_from(set: Set, byte: u8) -> Reacted
+    ensures { λ r. ⌜ ((s : Sets) (w : Waiting) (f st : List ℕ)
+        → reactionOf s r f st ≡ readFrom set (classOf byte) (codingOf s w f) st byte) ⌝ }
 {
     match class_of(byte) {
         Class::Below(k) => control(k, byte),
-        Class::Column2 => graphic(set_of(element, sets), byte),
-        Class::Above => graphic(set_of(element, sets), byte),
+        Class::Column2 => graphic(set, byte),
+        Class::Above => graphic(set, byte),
     }
 }

@@ -16,15 +16,17 @@ use crate::reactions::Reacted;
 use crate::reactions::refuse;
 use rules::Element;
 use rules::Refusal;
+use rules::Set;
 use rules::Sets;
 use rules::Waiting;
+use tables::sets::set_of;
 use tables::sets::shifted_to;
 ghost use mathlib.Core.Path.{_≡_};
 ghost use mathlib.Core.Bool.{true};
 ghost use Rattle.rules.specs.Coding.{react};
 ghost use Rattle.rules.specs.Ranges.{waitingFits};
 ghost use Rattle.macros.specs.Lent.{Sized};
-ghost use Rattle.coding.specs.View.{codingOf, reactionOf, elementRead, AsLent};
+ghost use Rattle.coding.specs.View.{codingOf, reactionOf, elementRead, setRead, AsLent};
 
 // The element that a byte is read from: the one a single shift names, else the one in use.
 fn element_read(waiting: Waiting, sets: Sets) -> Element
@@ -36,17 +38,26 @@ fn element_read(waiting: Waiting, sets: Sets) -> Element
     }
 }
 
-// A definition is stored as it is read. Where the byte is refused, calls a name or changes the sets, first cells and store stay as lent.
+// The set that a byte is read from where no sequence and no definition waits.
+pub fn set_read(waiting: Waiting, sets: Sets) -> Set
+    ensures { λ r. ⌜ r ≡ setRead waiting sets ⌝ }
+{
+    let element = element_read(waiting, sets);
+    set_of(element, sets)
+}
+
+// A byte that would be read from the set. A definition is stored as it is read. Where the byte is refused, calls a name or changes the sets, first cells and store stay as lent.
 pub fn react(
-    sets: Sets,
+    set: Set,
     waiting: Waiting,
     firsts: &mut [u8; 96],
     store: &mut [u8],
     byte: u8,
 ) -> Reacted
     requires { ⌜ (Sized (now store)) × (waitingFits waiting ≡ true) ⌝ }
-    ensures reaction { λ r. ⌜ reactionOf sets r (now (firsts .exit)) (now (store .exit))
-        ≡ react (codingOf sets waiting (now (firsts .entry))) (now (store .entry)) byte ⌝ }
+    ensures reaction { λ r. ⌜ ((sets : Sets) → set ≡ setRead waiting sets
+        → reactionOf sets r (now (firsts .exit)) (now (store .exit))
+        ≡ react (codingOf sets waiting (now (firsts .entry))) (now (store .entry)) byte) ⌝ }
     ensures kept { λ r. ⌜ (AsLent r (now (firsts .entry)) (now (firsts .exit))) × (AsLent r (now (store .entry)) (now (store .exit))) ⌝ }
 {
     if 127 < byte {
@@ -59,6 +70,6 @@ pub fn react(
         Waiting::Name => take_name(firsts, store, byte),
         Waiting::Body(definition) => in_body(definition, firsts, store, byte),
         Waiting::BodyEscape(definition) => in_body_escape(definition, firsts, store, byte),
-        _ => read_from(element_read(waiting, sets), sets, byte),
+        _ => read_from(set, byte),
     }
 }

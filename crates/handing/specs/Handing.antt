@@ -6,7 +6,7 @@ use Rattle.rules.specs.declared.Session.{Session}
 use Rattle.rules.specs.Step.{stateLent}
 use Rattle.rules.specs.Calls.{Handed}
 use Rattle.handing.specs.declared.Fed.{Fed}
-use Rattle.turns.specs.declared.step.Progress.{Progress}
+use Rattle.turns.specs.declared.progress.Progress.{Progress}
 
 -- With the store and the output that are left
 abbrev pub handedOf : Fed → List ℕ → List ℕ → Handed

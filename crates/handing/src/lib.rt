@@ -2,16 +2,15 @@
 use rules::Answer;
 use rules::Bodies;
 use rules::Coding;
-use rules::Command;
 use rules::Drawing;
-use rules::Look;
-use rules::Pen;
 use rules::Session;
 use rules::Status;
-use turns::step::Progress;
+use turns::progress::Progress;
+use turns::progress::Reached;
 ghost use mathlib.Core.Path.{_≡_};
 ghost use Rattle.figures.specs.Carried.{drawingOf};
-ghost use Rattle.turns.specs.View.{startOf, writtenTo, statusAfter, sessionAfter};
+ghost use Rattle.turns.specs.Progress.{startOf};
+ghost use Rattle.turns.specs.View.{statusAfter, sessionAfter};
 ghost use Rattle.handing.specs.Handing.{fedOf};
 
 // What a reading hands over, beside the store and the output.
@@ -53,18 +52,21 @@ fn status_after(answer: Answer) -> Status
 pub fn finish(
     answer: Answer,
     budget: u32,
-    progress: Progress,
-    pen: Pen,
-    command: Command,
-    look: Look,
+    reached: Reached,
     cells: [u8; 8],
     places: [u8; 8],
     firsts: [u8; 96],
     map: [u8; 48],
 ) -> Fed
     ensures { λ r. ⌜ r
-        ≡ fedOf answer progress (sessionAfter answer budget progress cells places firsts (drawingOf pen command look map)) ⌝ }
+        ≡ fedOf answer (reached .progress)
+        (sessionAfter answer budget (reached .progress) cells places firsts
+        (drawingOf (reached .pen) (reached .command) (reached .look) map)) ⌝ }
 {
+    let progress = reached.progress;
+    let pen = reached.pen;
+    let command = reached.command;
+    let look = reached.look;
     let sets = progress.sets;
     let waiting = progress.waiting;
     let status = status_after(answer);
@@ -95,12 +97,4 @@ pub fn finish(
         written: progress.written,
         session,
     }
-}
-
-pub fn with_written(progress: Progress, written: usize) -> Progress
-    ensures { λ r. ⌜ r ≡ writtenTo written progress ⌝ }
-{
-    let mut progress = progress;
-    progress.written = written;
-    progress
 }

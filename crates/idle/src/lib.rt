@@ -5,6 +5,7 @@ use crate::definitions::run_definition;
 use coding::react;
 use coding::reactions::Effect;
 use coding::reactions::sets_after;
+use coding::set_read;
 use rules::Action;
 use rules::Sets;
 use rules::Waiting;
@@ -91,7 +92,8 @@ pub fn run_idle(
                 waiting,
             };
         }
-        let reacted = react(sets, waiting, firsts, store, bytes[from + count]);
+        let set = set_read(waiting, sets);
+        let reacted = react(set, waiting, firsts, store, bytes[from + count]);
         let effect = reacted.effect;
         if !is_idle(effect) {
             return Idled {

@@ -23,7 +23,8 @@ use Rattle.records.proofs.Writes.{overwrite-length}
 use Rattle.turns.specs.declared.step.Course.{Course}
 use Rattle.turns.specs.declared.step.Course.the-variants.{GoesOn, Ends as Ends·course, Draws}
 use Rattle.turns.specs.Leaving.{Left, leaves}
-use Rattle.advance.specs.Walk.{budgetLeft}
+use Rattle.advance.specs.Walk.{placed, Stands, budgetLeft, none, step}
+use Rattle.advance.proofs.ProgressLaws.{walk-stands}
 
 -- So many bytes consumed and records written before a reading
 abbrev ahead : ℕ → List ℕ → Reading → Reading
@@ -37,10 +38,6 @@ drop-on : (s : Source) (n : ℕ) (l : List ℕ) → drop (consumedBy s 0) (drop 
 drop-on FromBody n l = refl
 drop-on FromPiece n l = drop-drop 1 n l ∙ ap (λ (k : ℕ). drop k l) (add-one n)
 
-pub consumed-within : (s : Source) (n : ℕ) (l : List ℕ) → n ≤ length l → consumedBy s 0 ≤ length (drop n l) → consumedBy s n ≤ length l
-consumed-within FromBody n l h k = h
-consumed-within FromPiece n l h k = let e = length-drop n l in omega arith
-
 abbrev pub wholeReading : State → List ℕ → List ℕ → Reading
 wholeReading w piece out = reading (Room (length out)) (budgetLeft w) w piece
 
@@ -48,9 +45,7 @@ pub record Kept (w₀ : State) (piece out₀ : List ℕ) (w : State) (at written
   pub same : wholeReading w₀ piece out₀ ≡ ahead at (take written out) (reading (Room (length out - written)) (budgetLeft w) w (drop at piece))
   pub past : drop written out ≡ drop written out₀
   pub long : length out ≡ length out₀
-  pub within : written ≤ length out
-  pub on : at ≤ length piece
-  pub sound : Valid w
+  pub stands : Stands piece (placed w at written out)
 
 pub kept-first : (w : State) (piece out : List ℕ) → Valid w → Kept w piece out w 0 0 out
 kept-first w piece out v =
@@ -58,9 +53,7 @@ kept-first w piece out v =
       same = simp (sub-zero, zero-add);
       past = refl;
       long = refl;
-      within = omega arith;
-      on = omega arith;
-      sound = v;
+      stands = record { sound = v; on = omega arith; within = omega arith };
     }
 
 module _ (w₀ : State) (piece out₀ : List ℕ) (w : State) (at written : ℕ) (out : List ℕ) where
@@ -72,12 +65,12 @@ module _ (w₀ : State) (piece out₀ : List ℕ) (w : State) (at written : ℕ)
   kept-on {n} {t} i b e =
       let s = t .source in
       let bs = bytesOfAll (t .records) in
-      let f = turn-advances w (drop at piece) (i .sound) (ltb (length out - written) roomForStep) e in
+      let f = turn-advances w (drop at piece) (i .stands .sound) (ltb (length out - written) roomForStep) e in
       let few = f .few in
       let free = ltb-false (length out - written) roomForStep (f .free) in
       let room : written + length bs ≤ length out = omega arith in
       let lo : length (overwrite written bs out) ≡ length out = overwrite-length bs out written room in
-      let ln : length (take written out ++ bs) ≡ written + length bs = length-append (take written out) bs ∙ ap (λ (n : ℕ). n + length bs) (length-take-le written out (i .within)) in
+      let ln : length (take written out ++ bs) ≡ written + length bs = length-append (take written out) bs ∙ ap (λ (n : ℕ). n + length bs) (length-take-le written out (i .stands .within)) in
       let joined : take written out ++ (bs ++ drop (written + length bs) out) ≡ (take written out ++ bs) ++ drop (written + length bs) out = sym (append-assoc (take written out) bs (drop (written + length bs) out)) in
       let so-far : take written out ++ bs ≡ take (written + length bs) (overwrite written bs out) =
       sym (ap (take (written + length bs)) joined ∙ take-at (take written out ++ bs) (drop (written + length bs) out) (written + length bs) ln) in
@@ -97,9 +90,7 @@ module _ (w₀ : State) (piece out₀ : List ℕ) (w : State) (at written : ℕ)
             ∙ ap (drop (length bs)) (i .past)
             ∙ drop-drop (length bs) written out₀;
         long = lo ∙ i .long;
-        within = omega arith;
-        on = consumed-within s at piece (i .on) (f .some);
-        sound = f .later .valid (i .sound);
+        stands = walk-stands (step none b e) (i .stands);
       }
 
   -- A turn that ends the reading hands the whole over
@@ -107,7 +98,7 @@ module _ (w₀ : State) (piece out₀ : List ℕ) (w : State) (at written : ℕ)
       → reading (Room (length out - written)) (budgetLeft w) w (drop at piece) ≡ rests a v
       → record { answer = a; state = v; consumed = at; written = written; output = out } ≡ handed (wholeReading w₀ piece out₀) out₀
   kept-ends a v i f =
-      rw (i .same ∙ ap (ahead at (take written out)) f, append-nil (take written out), length-take-le written out (i .within), add-zero at, ← i .past)
+      rw (i .same ∙ ap (ahead at (take written out)) f, append-nil (take written out), length-take-le written out (i .stands .within), add-zero at, ← i .past)
       (ap (λ (l : List ℕ). record { answer = a; state = v; consumed = at; written = written; output = l }) (sym (take-append-drop written out)))
 
   abbrev pub Next : Course → Left → Type 0
@@ -127,7 +118,7 @@ module _ (w₀ : State) (piece out₀ : List ℕ) (w : State) (at written : ℕ)
       kept-ends a v i
       (ap (λ (m : ℕ). reading (Room (length out - written)) m w (drop at piece)) b ∙ reads-ends (Room (length out - written)) n w (drop at piece) e)
   turn-next (Takes t) i b e =
-      (kept-on i b e, turn-advances w (drop at piece) (i .sound) (ltb (length out - written) roomForStep) e .later .steps, omega (arith, b))
+      (kept-on i b e, turn-advances w (drop at piece) (i .stands .sound) (ltb (length out - written) roomForStep) e .later .steps, omega (arith, b))
 
   -- What a turn leaves, as a function of it answered
   pub kept-next : (x : Left) → Kept w₀ piece out₀ w at written out

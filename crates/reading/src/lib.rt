@@ -1,19 +1,16 @@
 // A reading of a piece, turn by turn and run by run, as far as the output has room.
-use advance::coded::run_coded;
-use advance::drawn::after_run;
-use advance::drawn::run_drawn;
-use advance::drawn::run_strokes;
-use drawing::operands::resting;
+use advance::run::run;
 use handing::Fed;
 use handing::finish;
 use handing::start;
-use handing::with_written;
 use rules::Answer;
 use rules::Refusal;
 use rules::Session;
+use turns::progress::Reached;
+use turns::progress::after_drawing;
+use turns::progress::with_progress;
 use turns::step::Course;
 use turns::step::draw;
-use turns::turn::at_depth;
 use turns::turn::turn;
 ghost use mathlib.Core.Path.{_≡_};
 ghost use Prim.Native.Nat.{_-_};
@@ -23,9 +20,8 @@ ghost use Rattle.rules.specs.Calls.{handed};
 ghost use Rattle.rules.specs.Step.{stateLent};
 ghost use Rattle.handing.specs.Handing.{handedOf};
 
-// The turns of a reading, until one ends it. Before each turn runs take as many bytes at once as they can: those that
-// write no record, then strokes, whose loop is the shortest, then all else that is drawn. A run may stop early without saying why, since
-// the turn does the rest. Whatever is half read, an operand, a sequence or a body, lies in the session, so that the next call goes on.
+// The turns of a reading, until one ends it. Before each turn a run takes as many bytes at once as it can. Whatever is half read, an
+// operand, a sequence or a body, lies in the session, so that the next call goes on.
 pub fn read(session: Session, store: &mut [u8], piece: &[u8], out: &mut [u8]) -> Fed
     requires { ⌜ Valid (stateLent session (now store)) ⌝ }
     ensures { λ r. ⌜ handedOf r (now (store .exit)) (now (out .exit))
@@ -42,59 +38,30 @@ pub fn read(session: Session, store: &mut [u8], piece: &[u8], out: &mut [u8]) ->
     let mut places = bodies.places;
     let mut firsts = coding.firsts;
     let mut map = drawing.map;
-    let mut pen = drawing.pen;
-    let mut command = drawing.command;
-    let mut look = drawing.look;
-    let mut progress = start(session);
+    let pen = drawing.pen;
+    let command = drawing.command;
+    let look = drawing.look;
+    let progress = start(session);
+    let mut reached = Reached {
+        progress,
+        pen,
+        command,
+        look,
+    };
     loop {
-        let free = out.len() - progress.written;
-        let taken = progress.steps;
-        progress = run_coded(
-            progress,
+        let taken = reached.progress.steps;
+        reached = run(
+            reached,
             budget,
-            free,
             &mut cells,
             &mut places,
             &mut firsts,
             store,
             piece,
+            out,
         );
+        let progress = reached.progress;
         if taken < progress.steps {
-            continue;
-        }
-        let lined = run_strokes(
-            progress,
-            pen,
-            command,
-            look,
-            budget,
-            &cells,
-            &mut places,
-            store,
-            piece,
-            out,
-        );
-        if 0 < lined.count {
-            progress = after_run(progress, lined.count, lined.at);
-            pen = resting(lined.point);
-            continue;
-        }
-        let ran = run_drawn(
-            progress,
-            pen,
-            command,
-            look,
-            budget,
-            &cells,
-            &mut places,
-            store,
-            piece,
-            out,
-        );
-        if 0 < ran.count {
-            progress = after_run(progress, ran.count, ran.at);
-            pen = ran.pen;
-            command = ran.command;
             continue;
         }
         let free = out.len() - progress.written;
@@ -112,60 +79,27 @@ pub fn read(session: Session, store: &mut [u8], piece: &[u8], out: &mut [u8]) ->
         let next = turned.progress;
         match course {
             Course::Ends(answer) => {
-                return finish(
-                    answer,
-                    budget,
-                    next,
-                    pen,
-                    command,
-                    look,
-                    cells,
-                    places,
-                    firsts,
-                    map,
-                );
+                return finish(answer, budget, reached, cells, places, firsts, map);
             }
             Course::GoesOn => {
-                progress = next;
-                continue;
+                reached = with_progress(reached, next);
             }
             Course::Draws(action) => {
                 let cursor = turned.cursor;
-                let depth = next.depth;
-                let at = progress.written;
                 let drawn = draw(
                     action,
-                    depth,
                     cursor,
-                    pen,
-                    command,
-                    look,
+                    reached,
                     &mut cells,
                     &mut places,
                     &mut map,
                     out,
-                    at,
                 );
                 if drawn.refused {
                     let answer = Answer::Refused(Refusal::TooManyVertices);
-                    let progress = at_depth(progress, depth);
-                    return finish(
-                        answer,
-                        budget,
-                        progress,
-                        pen,
-                        command,
-                        look,
-                        cells,
-                        places,
-                        firsts,
-                        map,
-                    );
+                    return finish(answer, budget, reached, cells, places, firsts, map);
                 }
-                pen = drawn.pen;
-                command = drawn.command;
-                look = drawn.look;
-                progress = with_written(next, drawn.at);
+                reached = after_drawing(next, drawn);
                 continue;
             }
         }

@@ -1,2 +1,3 @@
+pub mod ProgressLaws
 pub mod StepLaws
 pub mod TurnLaws

@@ -19,7 +19,7 @@ use Rattle.rules.specs.declared.Read.{Read}
 use Rattle.rules.specs.declared.Read.the-variants.{Byte, BadCell}
 use Rattle.rules.specs.declared.Refusal.the-variants.{BudgetUsed, OutOfRange}
 use Rattle.rules.specs.Numbers.{storeSize, mostDepth, roomForStep}
-use Rattle.rules.specs.Bodies.{bodyAt, withBody, readBody, depthLeft, unspent}
+use Rattle.rules.specs.Bodies.{bodyAt, withBody, readBody, unspent}
 use Rattle.rules.specs.Ranges.{placesFit, bodiesFit, waitingFits}
 use Rattle.rules.specs.Step.{State, withBodies, removeSpent, Source, FromBody, Sought, NothingLeft, Spoilt, Found, fromBody, seekAt, seek, Move, Stops, Goes, interpret}
 use Rattle.rules.specs.Turn.{Turn, Ends, stopped, onMove, onSought, turn}
@@ -28,10 +28,10 @@ use Rattle.rules.proofs.Bools.{true-false, false-true, and-left}
 use Rattle.bodies.specs.Stack.{bodiesOf}
 use Rattle.turns.specs.declared.step.Course.{Course}
 use Rattle.turns.specs.declared.step.Course.the-variants.{GoesOn, Ends as Ends·course, Draws}
-use Rattle.turns.specs.declared.step.Progress.{Progress}
+use Rattle.turns.specs.declared.progress.Progress.{Progress}
 use Rattle.turns.specs.declared.step.Turned.{Turned}
 use Rattle.turns.specs.Leaving.{nothingLeft, nextByte, sourceAt, advanced, interpreted, Left, leaves}
-use Rattle.turns.specs.View.{stateAt, atDepth, leftBy, leftOf, DrawDueBy, DrawDue, Ready}
+use Rattle.turns.specs.View.{stateAt, leftOf, NoneSpent}
 
 -- Whether something is left: of a body, or of the piece
 
@@ -117,40 +117,10 @@ valid-depth {w} v = let y = w .session .bodies in leb-true (y .depth) mostDepth 
 abbrev nowhere : Cursor
 nowhere = record { cell = 0; place = 0 }
 
--- Where an action is due, the progress before it has the depth of the one after it
-module _ (p : Progress) (d : ℕ) (q : Progress) (f : q ≡ atDepth d p) (r : Turned) (u : DrawDue q r) where
-  kept-depth : (a : Action) → DrawDueBy (Draws a) q (r .progress) → atDepth (r .progress .depth) p ≡ q
-  kept-depth a v = ap (λ (n : ℕ). atDepth n p) (ap (λ (z : Progress). z .depth) (v .0) ∙ ap (λ (z : Progress). z .depth) f) ∙ sym f
-
-  pub due-from : DrawDue (atDepth (r .progress .depth) p) r
-  due-from = by (r .course) u
-    where
-      by : (c : Course) → DrawDueBy c q (r .progress) → DrawDueBy c (atDepth (r .progress .depth) p) (r .progress)
-      by GoesOn v = tt
-      by (Ends·course a) v = tt
-      by (Draws a) v = subst (λ (z : Progress). DrawDueBy (Draws a) z (r .progress)) (sym (kept-depth a v)) v
-
-left-due : (budget : ℕ) (p : Progress) (d : ℕ) (q : Progress) → q ≡ atDepth d p → (r : Turned) → DrawDue q r
-    → (cells places firsts : List ℕ) (drawing : Drawing) (st out : List ℕ)
-    → leftOf budget (atDepth (r .progress .depth) p) r cells places firsts drawing st out ≡ leftOf budget q r cells places firsts drawing st out
-left-due budget p d q f r u cells places firsts drawing st out = by (r .course) u
-  where
-    by : (c : Course) → DrawDueBy c q (r .progress)
-        → leftBy c budget (atDepth (r .progress .depth) p) (r .progress) (r .cursor) cells places firsts drawing st out
-        ≡ leftBy c budget q (r .progress) (r .cursor) cells places firsts drawing st out
-    by GoesOn v = refl
-    by (Ends·course a) v = refl
-    by (Draws a) v =
-        ap (λ (z : Progress). leftBy (Draws a) budget z (r .progress) (r .cursor) cells places firsts drawing st out)
-        (kept-depth p d q f r u a v)
-
--- A turn from p, with the depth d once spent bodies are removed
-module _ (budget : ℕ) (p : Progress) (cells places firsts : List ℕ) (drawing : Drawing) (st piece out : List ℕ) (free : ℕ) (d : ℕ) (e : d ≡ depthLeft st (bodiesOf (p .depth) cells places) (p .depth)) (q : Progress) (f : q ≡ atDepth d p) where
+-- A turn from p, where no spent body runs
+module _ (budget : ℕ) (p : Progress) (cells places firsts : List ℕ) (drawing : Drawing) (st piece out : List ℕ) (free : ℕ) (none : NoneSpent (p .depth) cells places st) where
   abbrev entry : State
   entry = stateAt budget p cells places firsts drawing st
-
-  abbrev removed : State
-  removed = stateAt budget q cells places firsts drawing st
 
   abbrev rest : List ℕ
   rest = drop (p .at) piece
@@ -158,70 +128,58 @@ module _ (budget : ℕ) (p : Progress) (cells places firsts : List ℕ) (drawing
   abbrev Answers : Left → Type 0
   Answers l = l ≡ leaves (turn (ltb free roomForStep) (budget - p .steps) entry rest) (p .at) (p .written) out
 
-  pub spent-removed : removed ≡ removeSpent entry
+  removed : removeSpent entry ≡ entry
   unfolding removeSpent unspent
-  spent-removed = rw (f, e)
+  removed = rw none
 
-  comes : {n : ℕ} (t : Turn n) (l : Left) → budget - p .steps ≡ n → onSought (ltb free roomForStep) n (seek removed rest) removed ≡ t
+  comes : {n : ℕ} (t : Turn n) (l : Left) → budget - p .steps ≡ n → onSought (ltb free roomForStep) n (seek entry rest) entry ≡ t
       → l ≡ leaves t (p .at) (p .written) out → Answers l
   unfolding turn
-  comes t l m g h = rw (← spent-removed, m, g) h
+  comes t l m g h = rw (removed, m, g) h
 
-  pub turn-done : nothingLeft d rest ≡ true → (r : Turned) → r ≡ record { course = Ends·course Done; progress = q; cursor = nowhere }
-      → Answers (leftOf budget (atDepth (r .progress .depth) p) r cells places firsts drawing st out)
+  pub turn-done : nothingLeft (p .depth) rest ≡ true → (r : Turned) → r ≡ record { course = Ends·course Done; progress = p; cursor = nowhere }
+      → Answers (leftOf budget p r cells places firsts drawing st out)
   unfolding seek onSought leaves
-  turn-done h r g = comes (Ends Done removed) _ refl (rw (none-sought (q .depth) removed rest (rw f h))) (rw (g, f))
+  turn-done h r g = comes (Ends Done entry) _ refl (rw (none-sought (p .depth) entry rest h)) (rw g)
 
-  module _ (h : nothingLeft d rest ≡ false) where
-    found : seek removed rest ≡ soughtBy d (nextByte d st (bodiesOf d cells places) rest) removed rest
+  module _ (h : nothingLeft (p .depth) rest ≡ false) where
+    abbrev read : Read
+    read = nextByte (p .depth) st (bodiesOf (p .depth) cells places) rest
+
+    found : seek entry rest ≡ soughtBy (p .depth) read entry rest
     unfolding seek
-    found = rw f (byte-sought d (stateAt budget (atDepth d p) cells places firsts drawing st) rest refl h)
+    found = byte-sought (p .depth) entry rest refl h
 
-    pub turn-full : free < roomForStep → (r : Turned) → r ≡ record { course = Ends·course Full; progress = q; cursor = nowhere }
-        → Answers (leftOf budget (atDepth (r .progress .depth) p) r cells places firsts drawing st out)
+    pub turn-full : free < roomForStep → (r : Turned) → r ≡ record { course = Ends·course Full; progress = p; cursor = nowhere }
+        → Answers (leftOf budget p r cells places firsts drawing st out)
     unfolding leaves
     turn-full k r g =
-        comes (Ends Full removed) _ refl (rw (found, lt-ltb free roomForStep k) (full-sought d (budget - p .steps) (nextByte d st (bodiesOf d cells places) rest) removed rest)) (rw (g, f))
+        comes (Ends Full entry) _ refl (rw (found, lt-ltb free roomForStep k) (full-sought (p .depth) (budget - p .steps) read entry rest)) (rw g)
 
     module _ (k : roomForStep ≤ free) where
       enough : ltb free roomForStep ≡ false
       enough = le-ltb free roomForStep k
 
-      pub turn-spent : budget ≤ q .steps → (r : Turned) → r ≡ record { course = Ends·course (Refused BudgetUsed); progress = q; cursor = nowhere }
-          → Answers (leftOf budget (atDepth (r .progress .depth) p) r cells places firsts drawing st out)
+      pub turn-spent : budget ≤ p .steps → (r : Turned) → r ≡ record { course = Ends·course (Refused BudgetUsed); progress = p; cursor = nowhere }
+          → Answers (leftOf budget p r cells places firsts drawing st out)
       unfolding leaves
       turn-spent n r g =
-          let most : budget ≤ p .steps = rw f at n in
-          let none : budget - p .steps ≡ 0 = omega arith in
-          comes (stopped BudgetUsed removed) _ none (rw (found, enough) (spent-sought d (nextByte d st (bodiesOf d cells places) rest) removed rest)) (rw (g, f))
+          comes {n = 0} (stopped BudgetUsed entry) _ (omega arith) (rw (found, enough) (spent-sought (p .depth) read entry rest)) (rw g)
 
-      module _ (n : q .steps < budget) (x : Read) (i : x ≡ nextByte d st (bodiesOf d cells places) rest) where
+      module _ (n : p .steps < budget) (x : Read) (i : x ≡ read) where
         some-left : budget - p .steps ≡ suc (budget - (p .steps + 1))
-        some-left = let less : p .steps < budget = rw f at n in omega arith
+        some-left = omega arith
 
-        pub turn-bad : x ≡ BadCell → (r : Turned) → r ≡ record { course = Ends·course (Refused OutOfRange); progress = q; cursor = nowhere }
-            → Answers (leftOf budget (atDepth (r .progress .depth) p) r cells places firsts drawing st out)
+        pub turn-bad : x ≡ BadCell → (r : Turned) → r ≡ record { course = Ends·course (Refused OutOfRange); progress = p; cursor = nowhere }
+            → Answers (leftOf budget p r cells places firsts drawing st out)
         unfolding onSought leaves
-        turn-bad j r g = comes (stopped OutOfRange removed) _ some-left (rw (found, ← i, j, enough)) (rw (g, f))
+        turn-bad j r g = comes (stopped OutOfRange entry) _ some-left (rw (found, ← i, j, enough)) (rw g)
 
-        pub turn-byte : {b : ℕ} {y : Cursor} → x ≡ Byte b y → (r : Turned) → DrawDue q r → (cells₁ places₁ firsts₁ st₁ : List ℕ)
-            → leftOf budget q r cells₁ places₁ firsts₁ drawing st₁ out ≡ leaves (interpreted (q .depth) y b removed) (q .at) (q .written) out
-            → Answers (leftOf budget (atDepth (r .progress .depth) p) r cells₁ places₁ firsts₁ drawing st₁ out)
+        pub turn-byte : {b : ℕ} {y : Cursor} → x ≡ Byte b y → (l : Left) → l ≡ leaves (interpreted (p .depth) y b entry) (p .at) (p .written) out → Answers l
         unfolding onSought interpreted
-        turn-byte {b} {y} j r u cells₁ places₁ firsts₁ st₁ g =
-            let m = interpret (advanced d y removed) (sourceAt d) b in
-            let bs = drop (consumedBy (sourceAt d) 0) rest in
-            let same : leaves (interpreted (q .depth) y b removed) (q .at) (q .written) out ≡ leaves (interpreted d y b removed) (p .at) (p .written) out = rw f in
-            comes (onMove m b (sourceAt d) bs removed) _ some-left (rw (found, ← i, j, enough))
-            (left-due budget p d q f r u cells₁ places₁ firsts₁ drawing st₁ out
-            ∙ g
-            ∙ same
-            ∙ sym (move-leaves (budget - (p .steps + 1)) m b (sourceAt d) bs removed (p .at) (p .written) out))
-
--- What is asked of a byte's interpretation
-pub asked-ready : (budget : ℕ) (p : Progress) (d : ℕ) (q : Progress) → q ≡ atDepth d p → (after : ℕ) → p .depth ≤ 8 → d ≤ p .depth
-    → q .steps < budget → budget ≤ 4294967295 → after ≡ consumedBy (sourceAt d) (p .at) → waitingFits (p .waiting) ≡ true
-    → (Ready q after) × (waitingFits (q .waiting) ≡ true)
-asked-ready budget p d q f after v h n m a u =
-    let less : p .steps < budget = rw f at n in
-    rw f (record { depth = omega arith; steps = omega arith; after = a }, u)
+        turn-byte {b} {y} j l g =
+            let s = sourceAt (p .depth) in
+            let m = interpret (advanced (p .depth) y entry) s b in
+            let bs = drop (consumedBy s 0) rest in
+            comes (onMove m b s bs entry) l some-left (rw (found, ← i, j, enough))
+            (g ∙ sym (move-leaves (budget - (p .steps + 1)) m b s bs entry (p .at) (p .written) out))

@@ -15,6 +15,7 @@ use Rattle.rules.specs.declared.Status.the-variants.{Running, Stopped}
 use Rattle.rules.specs.declared.Answer.{Answer}
 use Rattle.rules.specs.declared.Answer.the-variants.{Done, Full, Refused}
 use Rattle.rules.specs.Numbers.{roomForStep}
+use Rattle.rules.specs.Bodies.{depthLeft}
 use Rattle.rules.specs.Drawing.{act}
 use Rattle.rules.specs.Step.{State, stateOf, withStatus, onOutcome}
 use Rattle.rules.specs.Reading.{consumedBy}
@@ -24,50 +25,21 @@ use Rattle.coding.specs.declared.reactions.Reacted.{Reacted}
 use Rattle.turns.specs.Leaving.{sourceAt, readOn, stepBy, Left, leaves}
 use Rattle.turns.specs.declared.step.Course.{Course}
 use Rattle.turns.specs.declared.step.Course.the-variants.{GoesOn, Ends, Draws}
-use Rattle.turns.specs.declared.step.Progress.{Progress}
+use Rattle.turns.specs.declared.progress.Progress.{Progress}
 use Rattle.turns.specs.declared.step.Turned.{Turned}
+use Rattle.turns.specs.Progress.{stepsTo}
 
 abbrev pub stateAt : ℕ → Progress → List ℕ → List ℕ → List ℕ → Drawing → List ℕ → State
 stateAt budget p cells places firsts d st =
     stateOf budget (p .steps) Running (bodiesOf (p .depth) cells places) (codingOf (p .sets) (p .waiting) firsts) d st
 
--- Where a reading starts from a session
-abbrev pub startOf : Session → Progress
-startOf s =
-    record {
-      at = 0;
-      written = 0;
-      steps = s .steps;
-      depth = s .bodies .depth;
-      sets = s .coding .sets;
-      waiting = s .coding .waiting;
-    }
+-- No body that runs is spent
+abbrev pub NoneSpent : ℕ → List ℕ → List ℕ → List ℕ → Type 0
+NoneSpent d cells places st = depthLeft st (bodiesOf d cells places) d ≡ d
 
 -- The coding layer after a byte and its reaction
 abbrev pub codingAfter : Reacted → Progress → List ℕ → Coding
 codingAfter r p firsts = codingOf (setsAfter (r .effect) (p .sets)) (r .waiting) firsts
-
--- An accepted step, which counts
-abbrev pub stepsTo : ℕ → ℕ → Sets → Waiting → Progress → Progress
-stepsTo at depth s x p =
-    record { at = at; written = p .written; steps = p .steps + 1; depth = depth; sets = s; waiting = x }
-
--- With spent bodies removed
-abbrev pub atDepth : ℕ → Progress → Progress
-atDepth d p =
-    record {
-      at = p .at;
-      written = p .written;
-      steps = p .steps;
-      depth = d;
-      sets = p .sets;
-      waiting = p .waiting;
-    }
-
--- With the records of a step
-abbrev pub writtenTo : ℕ → Progress → Progress
-writtenTo n p =
-    record { at = p .at; written = n; steps = p .steps; depth = p .depth; sets = p .sets; waiting = p .waiting }
 
 -- "A refused step changes nothing but the stop"
 abbrev pub answered : Answer → State → State
@@ -91,8 +63,8 @@ sessionAfter a budget p cells places firsts d =
       drawing = d;
     }
 
--- What a turn leaves by its course, from the progress p to q. Where an action is to be drawn, that is what drawing it leaves, the
--- innermost body then read on at x
+-- What a turn leaves by its course, from the progress p to q. One that ends the reading leaves p. Where an action is to be drawn, that is
+-- what drawing it leaves, the innermost body then read on at x
 abbrev pub leftBy : Course → ℕ → Progress → Progress → Cursor → List ℕ → List ℕ → List ℕ → Drawing → List ℕ → List ℕ → Left
 leftBy GoesOn budget p q x cells places firsts d st out =
     record {
@@ -105,9 +77,9 @@ leftBy GoesOn budget p q x cells places firsts d st out =
 leftBy (Ends a) budget p q x cells places firsts d st out =
     record {
       course = Ends a;
-      state = answered a (stateAt budget q cells places firsts d st);
-      consumed = q .at;
-      written = q .written;
+      state = answered a (stateAt budget p cells places firsts d st);
+      consumed = p .at;
+      written = p .written;
       output = out;
     }
 leftBy (Draws a) budget p q x cells places firsts d st out =

@@ -1,3 +1,4 @@
 // The turns of a reading, one accepted step each.
+pub mod progress;
 pub mod step;
 pub mod turn;

@@ -1,21 +1,20 @@
 // One step: a byte that was read is interpreted. All that can refuse it comes before the first change.
+use crate::progress::Progress;
+use crate::progress::Reached;
+use crate::progress::counted;
 use bodies::set_body;
 use coding::react;
 use coding::reactions::Effect;
 use coding::reactions::Reacted;
-use coding::reactions::sets_after;
+use coding::set_read;
 use drawing::act;
 use figures::Drawn;
 use macros::names::first_of;
 use rules::Action;
 use rules::Answer;
-use rules::Command;
 use rules::Cursor;
-use rules::Look;
 use rules::MOST_DEPTH;
-use rules::Pen;
 use rules::Refusal;
-use rules::Sets;
 use rules::Waiting;
 use tables::escapes::after_escape;
 ghost use mathlib.Core.Path.{_≡_};
@@ -31,19 +30,8 @@ ghost use Rattle.rules.specs.Step.{onOutcome, call, opensInside};
 ghost use Rattle.macros.specs.Lent.{Sized, IsName};
 ghost use Rattle.figures.specs.Carried.{carryOut, drawingOf, carriedOf};
 ghost use Rattle.bodies.specs.Stack.{bodiesOf};
-ghost use Rattle.coding.specs.View.{setsAfter};
 ghost use Rattle.turns.specs.Leaving.{sourceAt, readOn, stepBy, interpreted, leaves};
-ghost use Rattle.turns.specs.View.{stateAt, stepsTo, codingAfter, leftOf, DrawDue, Ready, readOnIf};
-
-// Where a reading stands between two steps. The drawing state and the arrays of the state are lent beside it.
-pub struct Progress {
-    pub at: usize,
-    pub written: usize,
-    pub sets: Sets,
-    pub waiting: Waiting,
-    pub steps: u32,
-    pub depth: u8,
-}
+ghost use Rattle.turns.specs.View.{stateAt, codingAfter, leftOf, DrawDue, Ready, readOnIf};
 
 // Where reading goes on once a byte is read: in the piece, and in the innermost body.
 pub struct Onward {
@@ -74,24 +62,6 @@ pub(crate) fn ends(progress: Progress, answer: Answer) -> Turned
         course: Course::Ends(answer),
         progress,
         cursor: NOWHERE,
-    }
-}
-
-// How an accepted step leaves the progress: it counts.
-fn counted(progress: Progress, at: usize, depth: u8, reacted: Reacted) -> Progress
-    requires { ⌜ progress .steps < 4294967295 ⌝ }
-    ensures { λ r. ⌜ r ≡ stepsTo at depth (setsAfter (reacted .effect) (progress .sets)) (reacted .waiting) progress ⌝ }
-{
-    let effect = reacted.effect;
-    let sets = sets_after(effect, progress.sets);
-    let waiting = reacted.waiting;
-    Progress {
-        at,
-        written: progress.written,
-        sets,
-        waiting,
-        steps: progress.steps + 1,
-        depth,
     }
 }
 
@@ -245,7 +215,8 @@ pub(crate) fn interpret(
     if opens_inside(progress.depth, waiting, byte) {
         return ends(progress, Answer::Refused(Refusal::DefinitionInBody));
     }
-    let reacted = react(sets, waiting, firsts, store, byte);
+    let set = set_read(waiting, sets);
+    let reacted = react(set, waiting, firsts, store, byte);
     let effect = reacted.effect;
     match effect {
         Effect::Refuses(refusal) => ends(progress, Answer::Refused(refusal)),
@@ -259,27 +230,37 @@ pub(crate) fn interpret(
 // Draws the action of a turn, and reads its body on where drawing accepts it.
 pub fn draw(
     action: Action,
-    depth: u8,
     cursor: Cursor,
-    pen: Pen,
-    command: Command,
-    look: Look,
+    reached: Reached,
     cells: &mut [u8; 8],
     places: &mut [u8; 8],
     map: &mut [u8; 48],
     out: &mut [u8],
-    at: usize,
 ) -> Drawn
-    requires { ⌜ (depth ≤ 8) × (drawingFits (drawingOf pen command look (now map)) ≡ true) × (at + roomForStep ≤ length (now out)) ⌝ }
+    requires { ⌜ (reached .progress .depth ≤ 8)
+        × (drawingFits (drawingOf (reached .pen) (reached .command) (reached .look) (now map)) ≡ true)
+        × (reached .progress .written + roomForStep ≤ length (now out)) ⌝ }
     ensures drawn { λ r. ⌜ carriedOf r (now (map .exit)) (now (out .exit))
-        ≡ carryOut (act action) (drawingOf pen command look (now (map .entry))) at (now (out .entry)) ⌝ }
-    ensures bodies { λ r. ⌜ bodiesOf depth (now (cells .exit)) (now (places .exit))
-        ≡ readOnIf (r .refused) depth cursor (bodiesOf depth (now (cells .entry)) (now (places .entry))) ⌝ }
+        ≡ carryOut (act action) (drawingOf (reached .pen) (reached .command) (reached .look) (now (map .entry)))
+        (reached .progress .written) (now (out .entry)) ⌝ }
+    ensures bodies { λ r. ⌜ bodiesOf (reached .progress .depth) (now (cells .exit)) (now (places .exit))
+        ≡ readOnIf (r .refused) (reached .progress .depth) cursor
+        (bodiesOf (reached .progress .depth) (now (cells .entry)) (now (places .entry))) ⌝ }
 {
-    let drawn = act(action, pen, command, look, map, out, at);
+    let progress = reached.progress;
+    let at = progress.written;
+    let drawn = act(
+        action,
+        reached.pen,
+        reached.command,
+        reached.look,
+        map,
+        out,
+        at,
+    );
     if drawn.refused {
         return drawn;
     }
-    read_on(cells, places, depth, cursor);
+    read_on(cells, places, progress.depth, cursor);
     drawn
 }

@@ -1,10 +1,9 @@
-// One turn of a reading: spent bodies are removed, then the checks in their order, then a step.
+// One turn of a reading where spent bodies are removed: the tests in their order, then a step.
+use crate::progress::Progress;
 use crate::step::Onward;
-use crate::step::Progress;
 use crate::step::Turned;
 use crate::step::ends;
 use crate::step::interpret;
-use bodies::depth_left;
 use bodies::innermost;
 use rules::Answer;
 use rules::Cursor;
@@ -25,7 +24,7 @@ ghost use Rattle.rules.specs.Ranges.{waitingFits};
 ghost use Rattle.macros.specs.Lent.{Sized};
 ghost use Rattle.bodies.specs.Stack.{bodiesOf};
 ghost use Rattle.turns.specs.Leaving.{nothingLeft, nextByte, sourceAt, leaves};
-ghost use Rattle.turns.specs.View.{stateAt, atDepth, leftOf, DrawDue, RoomBy};
+ghost use Rattle.turns.specs.View.{stateAt, leftOf, NoneSpent, DrawDue, RoomBy};
 
 fn nothing_left(depth: u8, piece: &[u8], at: usize) -> bool
     ensures { λ r. ⌜ r ≡ nothingLeft depth (drop at (now (piece .entry))) ⌝ }
@@ -61,16 +60,8 @@ fn place_after(depth: u8, at: usize) -> usize
     if depth == 0 { at + 1 } else { at }
 }
 
-pub fn at_depth(progress: Progress, depth: u8) -> Progress
-    ensures { λ r. ⌜ r ≡ atDepth depth progress ⌝ }
-{
-    let mut progress = progress;
-    progress.depth = depth;
-    progress
-}
-
-// One turn, with so many bytes of the output free: spent bodies are removed, then come the tests in their order, then the byte is
-// interpreted. What it asks of drawing is left to the caller.
+// One turn, with so many bytes of the output free: the tests come in their order, then the byte is interpreted. What it asks of drawing
+// is left to the caller.
 pub fn turn(
     progress: Progress,
     budget: u32,
@@ -82,21 +73,19 @@ pub fn turn(
     piece: &[u8],
 ) -> Turned
     requires { ⌜ (Sized (now store)) × (progress .depth ≤ 8) × (waitingFits (progress .waiting) ≡ true)
-        × (progress .at ≤ length (now piece)) ⌝ }
+        × (progress .at ≤ length (now piece)) × NoneSpent (progress .depth) (now cells) (now places) (now store) ⌝ }
     ensures left { λ r. ⌜ ((d : Drawing) (out : List ℕ)
-        → leftOf budget (atDepth (r .progress .depth) progress) r (now (cells .exit)) (now (places .exit))
-        (now (firsts .exit)) d (now (store .exit)) out
+        → leftOf budget progress r (now (cells .exit)) (now (places .exit)) (now (firsts .exit)) d (now (store .exit)) out
         ≡ leaves
         (turn (ltb free roomForStep) (budget - progress .steps)
         (stateAt budget progress (now (cells .entry)) (now (places .entry)) (now (firsts .entry)) d (now (store .entry)))
         (drop (progress .at) (now (piece .entry))))
         (progress .at) (progress .written) out) ⌝ }
-    ensures due { λ r. ⌜ DrawDue (atDepth (r .progress .depth) progress) r ⌝ }
+    ensures due { λ r. ⌜ DrawDue progress r ⌝ }
     ensures room { λ r. ⌜ RoomBy (r .course) free ⌝ }
 {
-    let depth = depth_left(store, cells, places, progress.depth);
+    let depth = progress.depth;
     let at = progress.at;
-    let progress = at_depth(progress, depth);
     if nothing_left(depth, piece, at) {
         return ends(progress, Answer::Done);
     }

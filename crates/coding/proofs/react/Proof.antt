@@ -12,7 +12,7 @@ returns : tie.Need-returns
 returns c =
     let refuse· = c .refuse in
     let if1· = c .before .if1 in
-    (refuse· .ensures _ _ _ ∙ over _ _ _ (if1· .taken), unchanged (refuse· .result) _ _)
+    (λ sets h. refuse· .ensures _ _ _ ∙ over _ _ _ (if1· .taken), unchanged (refuse· .result) _ _)
 
 in-body-requires : tie.Need-in-body-requires
 unfolding waitingFits
@@ -33,14 +33,14 @@ returns-2 c =
     let in-escape· = c .in-escape in
     let if1· = c .before .before .before .if1 in
     let enum-told· = c .before .enum-told in
-    (in-escape· .ensures _ _ _ ∙ inside _ _ _ _ _ (if1· .left) Escape (enum-told· .given .1), unchanged (in-escape· .result) _ _)
+    (λ sets h. in-escape· .ensures _ _ _ ∙ inside _ _ _ _ _ (if1· .left) Escape (enum-told· .given .1), unchanged (in-escape· .result) _ _)
 
 returns-3 : tie.Need-returns-3
 returns-3 c =
     let in-designation· = c .in-designation in
     let if1· = c .before .before .before .before .if1 in
     let waiting· = c .before .before .waiting in (
-      in-designation· .ensures _ _ _ ∙ inside _ _ _ _ _ (if1· .left) (Designator _) (waiting· .given .1),
+      λ sets h. in-designation· .ensures _ _ _ ∙ inside _ _ _ _ _ (if1· .left) (Designator _) (waiting· .given .1),
       unchanged (in-designation· .result) _ _,
     )
 
@@ -49,14 +49,14 @@ returns-4 c =
     let in-longer· = c .in-longer in
     let if1· = c .before .before .before .if1 in
     let enum-told2· = c .before .enum-told2 in
-    (in-longer· .ensures _ _ _ ∙ inside _ _ _ _ _ (if1· .left) Longer (enum-told2· .given .1), unchanged (in-longer· .result) _ _)
+    (λ sets h. in-longer· .ensures _ _ _ ∙ inside _ _ _ _ _ (if1· .left) Longer (enum-told2· .given .1), unchanged (in-longer· .result) _ _)
 
 returns-5 : tie.Need-returns-5
 returns-5 c =
     let take-name· = c .before .before .take-name in
     let if1· = c .before .before .before .before .before .before .before .if1 in
     let enum-told3· = c .before .before .before .before .before .enum-told3 in
-    (take-name· .ensures .0 _ ∙ inside _ _ _ _ _ (if1· .left) Name (enum-told3· .given .1), take-name· .ensures .1)
+    (λ sets h. take-name· .ensures .0 _ ∙ inside _ _ _ _ _ (if1· .left) Name (enum-told3· .given .1), take-name· .ensures .1)
 
 returns-6 : tie.Need-returns-6
 unfolding reactTo
@@ -64,7 +64,7 @@ returns-6 c =
     let in-body· = c .before .before .in-body in
     let if1· = c .before .before .before .before .before .before .before .before .if1 in
     let waiting2· = c .before .before .before .before .before .before .waiting2 in
-    (in-body· .ensures .0 _ ∙ inside _ _ _ _ _ (if1· .left) (Body _) (waiting2· .given .1), in-body· .ensures .1)
+    (λ sets h. in-body· .ensures .0 _ ∙ inside _ _ _ _ _ (if1· .left) (Body _) (waiting2· .given .1), in-body· .ensures .1)
 
 returns-7 : tie.Need-returns-7
 unfolding reactTo
@@ -72,18 +72,17 @@ returns-7 c =
     let in-body-escape· = c .before .before .in-body-escape in
     let if1· = c .before .before .before .before .before .before .before .before .if1 in
     let waiting3· = c .before .before .before .before .before .before .waiting3 in (
-      in-body-escape· .ensures .0 _ ∙ inside _ _ _ _ _ (if1· .left) (BodyEscape _) (waiting3· .given .1),
+      λ sets h. in-body-escape· .ensures .0 _ ∙ inside _ _ _ _ _ (if1· .left) (BodyEscape _) (waiting3· .given .1),
       in-body-escape· .ensures .1,
     )
 
 returns-8 : tie.Need-returns-8
 returns-8 c =
     let read-from· = c .read-from in
-    let args· = c .before .before .before .before .before .args in
-    let match· = c .before .before .match in
-    let element-read· = c .before .element-read in
-    let if1· = c .before .before .before .if1 in (
-      read-from· .ensures (args· .waiting) _ _ ∙ others-read _ _ _ _ _ _ (match· .keys7) (element-read· .ensures) ∙ inside _ _ _ _ _ (if1· .left) _ refl,
+    let args· = c .before .before .before .before .args in
+    let match· = c .before .match in
+    let if1· = c .before .before .if1 in (
+      λ sets h. read-from· .ensures sets (args· .waiting) _ _ ∙ others-read _ _ _ _ _ _ (match· .keys7) h ∙ inside _ _ _ _ _ (if1· .left) _ refl,
       unchanged (read-from· .result) _ _,
     )
 
@@ -105,7 +104,6 @@ react-spec =
     in-body-requires
     (λ c. search needs)
     in-body-escape-requires
-    (λ c κs. search needs)
     (λ c κs. search needs)
     returns-2
     returns-3

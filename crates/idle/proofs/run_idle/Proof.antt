@@ -72,14 +72,14 @@ add-react c = search needs
 
 shared-slice-read-react : tie.Need-shared-slice-read-react Inv-loop μ-loop
 shared-slice-read-react c =
-    let may-be-idle· = c .before .before .before .before .may-be-idle in
-    let if2· = c .before .before .before .if2 in
+    let may-be-idle· = c .before .before .before .before .before .may-be-idle in
+    let if2· = c .before .before .before .before .if2 in
     omega (arith, may-be-idle· .ensures (not-false (may-be-idle· .result) (if2· .left)))
 
 react-requires : tie.Need-react-requires Inv-loop μ-loop
 react-requires c κs =
-    let loop· = c .before .before .before .before .before .before .before .before .before .before .before .before .loop in
-    let pre· = c .before .before .before .before .before .before .before .before .before .before .before .before .before .before .before .pre in
+    let loop· = c .before .before .before .before .before .before .before .before .before .before .before .before .before .loop in
+    let pre· = c .before .before .before .before .before .before .before .before .before .before .before .before .before .before .before .before .pre in
     (search needs, idle-fits _ _ _ _ _ (loop· .inv .2) (pre· .1))
 
 is-idle-requires : tie.Need-is-idle-requires Inv-loop μ-loop
@@ -87,7 +87,7 @@ is-idle-requires c κs = tt
 
 same-length-2 : tie.Need-same-length-2 Inv-loop μ-loop
 same-length-2 c =
-    let pre· = c .before .before .before .before .before .before .before .before .before .before .before .before .before .before .before .before .before .before .before .before .pre in
+    let pre· = c .before .before .before .before .before .before .before .before .before .before .before .before .before .before .before .before .before .before .before .before .before .pre in
     omega (arith, pre· .0)
 
 returns-2 : tie.Need-returns-2 Inv-loop μ-loop
@@ -95,10 +95,11 @@ returns-2 c =
     let react· = c .before .before .before .before .react in
     let is-idle· = c .before .is-idle in
     let if3· = c .if3 in
-    let if1· = c .before .before .before .before .before .before .before .before .before .before .if1 in
-    let run-definition· = c .before .before .before .before .before .before .before .before .before .before .before .before .before .before .run-definition in
-    let loop· = c .before .before .before .before .before .before .before .before .before .before .before .before .before .before .before .before .before .loop in
-    let kept = busy-keeps _ _ _ _ _ (react· .result) _ _ (react· .ensures .0) (sym (is-idle· .ensures) ∙ not-true (is-idle· .result) (if3· .taken)) (react· .ensures .1) in
+    let if1· = c .before .before .before .before .before .before .before .before .before .before .before .if1 in
+    let run-definition· = c .before .before .before .before .before .before .before .before .before .before .before .before .before .before .before .run-definition in
+    let loop· = c .before .before .before .before .before .before .before .before .before .before .before .before .before .before .before .before .before .before .loop in
+    let set-read· = c .before .before .before .before .before .before .before .before .set-read in
+    let kept = busy-keeps _ _ _ _ _ (react· .result) _ _ (react· .ensures .0 _ (set-read· .ensures)) (sym (is-idle· .ensures) ∙ not-true (is-idle· .result) (if3· .taken)) (react· .ensures .1) in
     let ran = idle-still _ _ _ _ _ _ _ _ _ _ _ _ _ (if1· .left) (run-definition· .ensures .0 _) (loop· .inv .2) in
     (rw (kept .0, kept .1) ran, loop· .inv .0)
 
@@ -107,33 +108,34 @@ sets-after-requires c κs = tt
 
 add-count-2 : tie.Need-add-count-2 Inv-loop μ-loop
 add-count-2 c =
-    let may-be-idle· = c .before .before .before .before .before .before .before .before .before .before .may-be-idle in
-    let if2· = c .before .before .before .before .before .before .before .before .before .if2 in
-    let fits· = c .before .before .before .before .before .before .before .before .before .before .before .before .before .before .before .before .before .before .before .before .before .fits in
+    let may-be-idle· = c .before .before .before .before .before .before .before .before .before .before .before .may-be-idle in
+    let if2· = c .before .before .before .before .before .before .before .before .before .before .if2 in
+    let fits· = c .before .before .before .before .before .before .before .before .before .before .before .before .before .before .before .before .before .before .before .before .before .before .fits in
     omega (arith, may-be-idle· .ensures (not-false (may-be-idle· .result) (if2· .left)), fits· .to)
 
 loop-less-2 : tie.Need-loop-less-2 Inv-loop μ-loop
 loop-less-2 c =
-    let may-be-idle· = c .before .before .before .before .before .before .before .before .before .before .may-be-idle in
-    let if2· = c .before .before .before .before .before .before .before .before .before .if2 in
+    let may-be-idle· = c .before .before .before .before .before .before .before .before .before .before .before .may-be-idle in
+    let if2· = c .before .before .before .before .before .before .before .before .before .before .if2 in
     omega (arith, may-be-idle· .ensures (not-false (may-be-idle· .result) (if2· .left)))
 
 loop-again-2 : tie.Need-loop-again-2 Inv-loop μ-loop
 loop-again-2 c =
     let is-idle· = c .before .before .is-idle in
     let if3· = c .before .if3 in
-    let if1· = c .before .before .before .before .before .before .before .before .before .before .before .if1 in
-    let run-definition· = c .before .before .before .before .before .before .before .before .before .before .before .before .before .before .before .run-definition in
-    let loop· = c .before .before .before .before .before .before .before .before .before .before .before .before .before .before .before .before .before .before .loop in
-    let may-be-idle· = c .before .before .before .before .before .before .before .before .before .before .may-be-idle in
-    let if2· = c .before .before .before .before .before .before .before .before .before .if2 in
+    let if1· = c .before .before .before .before .before .before .before .before .before .before .before .before .if1 in
+    let run-definition· = c .before .before .before .before .before .before .before .before .before .before .before .before .before .before .before .before .run-definition in
+    let loop· = c .before .before .before .before .before .before .before .before .before .before .before .before .before .before .before .before .before .before .before .loop in
+    let may-be-idle· = c .before .before .before .before .before .before .before .before .before .before .before .may-be-idle in
+    let if2· = c .before .before .before .before .before .before .before .before .before .before .if2 in
     let react· = c .before .before .before .before .before .react in
     let sets-after· = c .sets-after in
+    let set-read· = c .before .before .before .before .before .before .before .before .before .set-read in
     let idle = sym (is-idle· .ensures) ∙ not-false (is-idle· .result) (if3· .left) in
     let ran = idle-still _ _ _ _ _ _ _ _ _ _ _ _ _ (if1· .left) (run-definition· .ensures .0 _) (loop· .inv .2) in (
       omega (arith, may-be-idle· .ensures (not-false (may-be-idle· .result) (if2· .left))),
       search needs,
-      rw (sets-after· .ensures) (each-on _ _ _ _ _ ran (idle-reacts _ _ _ _ _ (react· .result) _ _ (react· .ensures .0) idle)),
+      rw (sets-after· .ensures) (each-on _ _ _ _ _ ran (idle-reacts _ _ _ _ _ (react· .result) _ _ (react· .ensures .0 _ (set-read· .ensures)) idle)),
     )
 
 pub run-idle-spec : {M : Type 1} → statement M
@@ -152,6 +154,7 @@ run-idle-spec =
     may-be-idle-requires
     same-length
     returns
+    (λ c κs. search needs)
     add-react
     shared-slice-read-react
     react-requires

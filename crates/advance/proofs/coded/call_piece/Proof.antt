@@ -1,6 +1,6 @@
 use denote.Ref.{now}
 use native.Mathlib.Omega.{arith}
-use Rattle.advance.proofs.ProgressLaws.{walk-calls, coded-most}
+use Rattle.advance.proofs.ProgressLaws.{walk-calls, coded-most, coded-more}
 use Rattle.advance.specs.Walk.{none}
 use borrow.Author.Needs.{needs}
 use Rattle.advance.proofs.coded.call_piece.Statement.{statement}
@@ -10,7 +10,9 @@ empty-calls-requires : tie.Need-empty-calls-requires
 empty-calls-requires c κs = search needs
 
 returns : tie.Need-returns
-returns c = (λ budget d st out few room. none, omega arith)
+returns c =
+    let pre· = c .before .before .before .pre in
+    (λ budget d st out few room. none, (omega arith, λ h. pre· .0))
 
 set-body-requires : tie.Need-set-body-requires
 set-body-requires c κs = search needs
@@ -26,7 +28,7 @@ returns-2 c =
     let set-body· = c .before .before .set-body in
     let if1· = c .before .before .before .before .before .if1 in
     let after-coding· = c .after-coding in
-    (λ budget d st out few room. walk-calls budget (args· .progress) (now (args· .cells)) (now (args· .places)) (now (args· .firsts)) d st (now (args· .piece)) out (pre· .0) (args· .to) (pre· .4) few room (empty-calls· .result) (set-body· .last .0) (set-body· .last .1 .0) (if1· .left) (pre· .1) (pre· .2) (empty-calls· .ensures .0) (empty-calls· .ensures .1) (set-body· .ensures) (after-coding· .result) (after-coding· .ensures), coded-most (args· .progress) (args· .to) (empty-calls· .result) _ _ _ (after-coding· .result) (after-coding· .ensures) (empty-calls· .ensures .1))
+    (λ budget d st out few room. walk-calls budget (args· .progress) (now (args· .cells)) (now (args· .places)) (now (args· .firsts)) d st (now (args· .piece)) out (pre· .0) (args· .to) (pre· .4) few room (empty-calls· .result) (set-body· .last .0) (set-body· .last .1 .0) (if1· .left) (pre· .1) (pre· .2) (empty-calls· .ensures .0) (empty-calls· .ensures .1) (set-body· .ensures) (after-coding· .result) (after-coding· .ensures), (coded-most (args· .progress) (args· .to) (empty-calls· .result) _ _ _ (after-coding· .result) (after-coding· .ensures) (empty-calls· .ensures .1), λ h. absurd (coded-more (args· .progress) (empty-calls· .result) _ _ _ (after-coding· .result) (after-coding· .ensures) (if1· .left) h)))
 
 pub call-piece-spec : {M : Type 1} → statement M
 call-piece-spec =

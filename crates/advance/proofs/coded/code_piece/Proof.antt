@@ -1,21 +1,28 @@
 use denote.Ref.{now}
 use native.Mathlib.Omega.{arith}
 use Rattle.advance.specs.Walk.{none}
+use Rattle.advance.proofs.ProgressLaws.{none-runs}
 use borrow.Author.Needs.{needs}
 use Rattle.advance.proofs.coded.code_piece.Statement.{statement}
 use Rattle.advance.proofs.coded.code_piece.Tie as tie
 
 returns : tie.Need-returns
-returns c = (λ d out h. none, omega arith)
+returns c =
+    let pre· = c .before .before .before .before .pre in
+    (λ d out h. none, (omega arith, λ h. pre· .3))
 
 reach-requires : tie.Need-reach-requires
 reach-requires c κs = search needs
 
 returns-2 : tie.Need-returns-2
-returns-2 c = (λ d out h. none, omega arith)
+returns-2 c =
+    let pre· = c .before .before .before .before .before .before .pre in
+    (λ d out h. none, (omega arith, λ h. pre· .3))
 
 returns-3 : tie.Need-returns-3
-returns-3 c = (λ d out h. none, omega arith)
+returns-3 c =
+    let pre· = c .before .before .before .before .before .before .before .pre in
+    (λ d out h. none, (omega arith, λ h. pre· .3))
 
 awaits-nothing-requires : tie.Need-awaits-nothing-requires
 awaits-nothing-requires c κs = search needs
@@ -39,7 +46,7 @@ returns-4 c =
     let args· = c .before .before .before .before .before .before .before .before .before .before .before .before .before .before .before .args in
     let reach· = c .before .before .before .before .before .before .before .before .before .before .reach in
     let if3· = c .before .before .before .before .before .before .before .before .if3 in
-    (λ d out h. names-piece· .ensures .0 (args· .budget) d (now (args· .store)) out (reach· .ensures .2) (omega (arith, if3· .left, h)), omega (arith, names-piece· .ensures .1, reach· .ensures .2))
+    (λ d out h. names-piece· .ensures .0 (args· .budget) d (now (args· .store)) out (reach· .ensures .2) (omega (arith, if3· .left, h)), (omega (arith, names-piece· .ensures .1 .0, reach· .ensures .2), λ h. none-runs _ _ _ _ (names-piece· .ensures .1 .1 h)))
 
 idle-piece-requires : tie.Need-idle-piece-requires
 idle-piece-requires c κs =
@@ -59,7 +66,7 @@ returns-5 c =
     let args· = c .before .before .before .before .before .before .before .before .before .before .before .before .before .before .args in
     let reach· = c .before .before .before .before .before .before .before .before .before .reach in
     let if3· = c .before .before .before .before .before .before .before .if3 in
-    (λ d out h. idle-piece· .ensures .0 (args· .budget) (now (args· .cells)) (now (args· .places)) d out (reach· .ensures .2) (omega (arith, if3· .left, h)), omega (arith, idle-piece· .ensures .1, reach· .ensures .2))
+    (λ d out h. idle-piece· .ensures .0 (args· .budget) (now (args· .cells)) (now (args· .places)) d out (reach· .ensures .2) (omega (arith, if3· .left, h)), (omega (arith, idle-piece· .ensures .1 .0, reach· .ensures .2), λ h. none-runs _ _ _ _ (idle-piece· .ensures .1 .1 h)))
 
 pub code-piece-spec : {M : Type 1} → statement M
 code-piece-spec =

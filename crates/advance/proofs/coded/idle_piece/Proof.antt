@@ -1,4 +1,6 @@
 use denote.Ref.{now}
+use mathlib.Core.Path.{ap}
+use Rattle.turns.specs.declared.progress.Progress.{Progress}
 use Rattle.advance.proofs.ProgressLaws.{walk-idle, coded-most}
 use borrow.Author.Needs.{needs}
 use Rattle.advance.proofs.coded.idle_piece.Statement.{statement}
@@ -19,7 +21,7 @@ returns c =
     let pre· = c .before .before .before .before .before .before .before .before .before .before .pre in
     let run-idle· = c .before .before .before .before .run-idle in
     let after-coding· = c .after-coding in
-    (λ budget cells places d out few room. walk-idle budget (args· .progress) cells places (now (args· .firsts)) d (now (args· .store)) (now (args· .piece)) out (pre· .0) (args· .to) (pre· .4) few room (run-idle· .result) (run-idle· .last .1 .1 .0) (run-idle· .last .1 .1 .1 .0) (run-idle· .ensures .0) (run-idle· .ensures .1) (after-coding· .result) (after-coding· .ensures), coded-most (args· .progress) (args· .to) (run-idle· .result .count) _ _ _ (after-coding· .result) (after-coding· .ensures) (run-idle· .ensures .1))
+    (λ budget cells places d out few room. walk-idle budget (args· .progress) cells places (now (args· .firsts)) d (now (args· .store)) (now (args· .piece)) out (pre· .0) (args· .to) (pre· .4) few room (run-idle· .result) (run-idle· .last .1 .1 .0) (run-idle· .last .1 .1 .1 .0) (run-idle· .ensures .0) (run-idle· .ensures .1) (after-coding· .result) (after-coding· .ensures), (coded-most (args· .progress) (args· .to) (run-idle· .result .count) _ _ _ (after-coding· .result) (after-coding· .ensures) (run-idle· .ensures .1), λ h. ap (λ (p : Progress). p .depth) (after-coding· .ensures)))
 
 pub idle-piece-spec : {M : Type 1} → statement M
 idle-piece-spec =

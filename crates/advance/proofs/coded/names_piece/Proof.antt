@@ -21,10 +21,12 @@ call-piece-requires c κs =
 returns : tie.Need-returns
 returns c =
     let call-piece· = c .call-piece in
-    (call-piece· .ensures .0, call-piece· .ensures .1)
+    call-piece· .ensures
 
 returns-2 : tie.Need-returns-2
-returns-2 c = (λ budget d st out few room. none, omega arith)
+returns-2 c =
+    let pre· = c .before .before .before .pre in
+    (λ budget d st out few room. none, (omega arith, λ h. pre· .0))
 
 pub names-piece-spec : {M : Type 1} → statement M
 names-piece-spec =

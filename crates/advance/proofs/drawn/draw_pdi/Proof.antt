@@ -1,6 +1,8 @@
 use Rattle.runs.specs.Run.{none}
 use native.Mathlib.Omega.{arith}
 use mathlib.Core.Path.{ap}
+use mathlib.Core.List.{[]}
+use Rattle.advance.proofs.ProgressLaws.{run-still, pen-rests}
 use borrow.Author.Needs.{needs}
 use Rattle.advance.proofs.drawn.draw_pdi.Statement.{statement}
 use Rattle.advance.proofs.drawn.draw_pdi.Tie as tie
@@ -14,14 +16,21 @@ returns c =
     let pre· = c .before .before .before .before .before .pre in
     (λ m. rw (none-drawn· .ensures) none, omega (arith, ap (λ r. r .count) (none-drawn· .ensures), pre·))
 
-run-commands-requires : tie.Need-run-commands-requires
-run-commands-requires c κs = search needs
-
-same-length : tie.Need-same-length
-same-length c = search needs
-
 returns-2 : tie.Need-returns-2
-returns-2 c = search needs
+returns-2 c =
+    let resting· = c .resting in
+    let args· = c .before .before .before .before .before .before .before .before .before .before .before .args in
+    let draw-strokes· = c .before .before .before .before .before .draw-strokes in
+    let if2· = c .before .if2 in
+    (λ m. rw (resting· .ensures, pen-rests (args· .pen) _ (draw-strokes· .result .point) (if2· .taken)) (draw-strokes· .ensures .0 m), draw-strokes· .ensures .1)
+
+returns-3 : tie.Need-returns-3
+returns-3 c =
+    let draw-strokes· = c .before .before .before .before .before .before .before .before .draw-strokes in
+    let if2· = c .before .before .before .before .if2 in
+    let run-commands· = c .before .before .run-commands in
+    let still = run-still (draw-strokes· .ensures .0 []) (omega (arith, if2· .left)) in
+    (λ m. rw (← still .3) (run-commands· .ensures .0 m), run-commands· .ensures .1)
 
 pub draw-pdi-spec : {M : Type 1} → statement M
 draw-pdi-spec =
@@ -29,6 +38,10 @@ draw-pdi-spec =
     (tie.spec
     none-drawn-requires
     returns
-    run-commands-requires
-    same-length
-    returns-2)
+    (λ c κs. search needs)
+    (λ c κs. search needs)
+    (λ c. search needs)
+    returns-2
+    (λ c κs. search needs)
+    (λ c. search needs)
+    returns-3)

@@ -1,12 +1,12 @@
 use denote.Ref.{now}
 use native.Mathlib.Omega.{arith}
-use mathlib.Core.Path.{ap}
+use mathlib.Core.Path.{refl, ap, _∙_}
 use mathlib.Core.List.{List, []}
 use Prim.Native.Nat.{ℕ}
 use lib.ListN.{length}
 use borrow.Author.Tests.{not-false}
 use Rattle.runs.specs.declared.Ran.{Ran}
-use Rattle.advance.proofs.ProgressLaws.{walk-run, run-still, run-most, none-walk, none-most}
+use Rattle.advance.proofs.ProgressLaws.{walk-run, run-still, run-most, none-walk, none-most, past-none}
 use borrow.Author.Needs.{needs}
 use Rattle.advance.proofs.drawn.run_drawn.Statement.{statement}
 use Rattle.advance.proofs.drawn.run_drawn.Tie as tie
@@ -29,7 +29,7 @@ returns c =
     let command = ap (λ (r : Ran). r .command) e in
     let count = ap (λ (r : Ran). r .count) e in (
       λ firsts map. none-walk (args· .budget) (args· .progress) (now (args· .cells)) (now (args· .places)) firsts (args· .pen) (args· .command) (args· .look) map (now (args· .store)) (now (args· .piece)) (now (args· .out)) _ _ _ _ count at pen command,
-      (none-most _ (args· .budget) (args· .progress) (now (args· .piece)) count (pre· .0 .on) (omega (arith, good· .0 .1 .1 .1 .1 .1 .1 .0)), λ _. (at, pen, command)),
+      (none-most _ (args· .budget) (args· .progress) (now (args· .piece)) count (pre· .0 .on) (omega (arith, good· .0 .1 .1 .1 .1 .1 .1 .0)), λ _. (at, pen, command, refl)),
     )
 
 bytes-next-requires : tie.Need-bytes-next-requires
@@ -61,7 +61,7 @@ returns-2 c =
     let command = ap (λ (r : Ran). r .command) e in
     let count = ap (λ (r : Ran). r .count) e in (
       λ firsts map. none-walk (args· .budget) (args· .progress) (now (args· .cells)) (now (args· .places)) firsts (args· .pen) (args· .command) (args· .look) map (now (args· .store)) (now (args· .piece)) (now (args· .out)) _ _ _ _ count at pen command,
-      (none-most _ (args· .budget) (args· .progress) (now (args· .piece)) count (pre· .0 .on) (omega (arith, good· .0 .1 .1 .1 .1 .1 .1 .0)), λ _. (at, pen, command)),
+      (none-most _ (args· .budget) (args· .progress) (now (args· .piece)) count (pre· .0 .on) (omega (arith, good· .0 .1 .1 .1 .1 .1 .1 .0)), λ _. (at, pen, command, refl)),
     )
 
 set-read-requires : tie.Need-set-read-requires
@@ -103,7 +103,7 @@ returns-3 c =
           waits (set-read· .ensures) (source-of· .ensures) (draw-set· .ensures .0 map) (draw-set· .ensures .1) (bytes-next· .ensures .1) (bytes-next· .ensures .0) _ (read-past· .ensures),
       (
         run-most (draw-set· .result .count) (args· .budget) (args· .progress) (bytes-next· .ensures .0) (draw-set· .ensures .1) (bytes-next· .ensures .1) (pre· .0 .on) (omega (arith, fits· .budget)) (omega (arith, good· .0 .1 .1 .1 .1 .1 .1 .0)),
-        run-still (draw-set· .ensures .0 []),
+        λ h. let still = run-still (draw-set· .ensures .0 []) h in (still .0, still .1, still .2, read-past· .ensures ∙ past-none (args· .progress .depth) _ (now (args· .places)) h),
       ),
     )
 

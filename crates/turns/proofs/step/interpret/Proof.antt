@@ -38,11 +38,12 @@ enum-known-effect-2 c = search needs
 
 call-requires : tie.Need-call-requires
 call-requires c κs =
-    let pre· = c .before .before .before .before .before .before .before .before .before .before .before .before .before .before .before .pre in
-    let args· = c .before .before .before .before .before .before .before .before .before .before .before .before .before .before .before .args in
+    let pre· = c .before .before .before .before .before .before .before .before .before .before .before .before .before .before .before .before .pre in
+    let args· = c .before .before .before .before .before .before .before .before .before .before .before .before .before .before .before .before .args in
     let react· = c .before .before .before .before .before .before .before .before .react in
     let effect2· = c .before .before .before .before .effect2 in
-    (pre· .0, call-name (codingOf (args· .progress .sets) (args· .progress .waiting) (now (args· .firsts))) (now (args· .store)) (args· .byte) (react· .result) (react· .last .1 .1 .0) (react· .last .1 .1 .1 .0) (react· .ensures .0) (effect2· .given .0 .0) (effect2· .given .1) .1)
+    let set-read· = c .before .before .before .before .before .before .before .before .before .before .before .set-read in
+    (pre· .0, call-name (codingOf (args· .progress .sets) (args· .progress .waiting) (now (args· .firsts))) (now (args· .store)) (args· .byte) (react· .result) (react· .last .1 .1 .0) (react· .last .1 .1 .1 .0) (react· .ensures .0 _ (set-read· .ensures)) (effect2· .given .0 .0) (effect2· .given .1) .1)
 
 enum-known-effect-3 : tie.Need-enum-known-effect-3
 enum-known-effect-3 c = search needs
@@ -67,13 +68,14 @@ same-length c = search needs
 
 returns-2 : tie.Need-returns-2
 returns-2 c =
-    let args· = c .before .before .before .before .before .before .before .before .before .before .before .before .before .args in
-    let opens-inside· = c .before .before .before .before .before .before .before .before .before .before .opens-inside in
-    let if1· = c .before .before .before .before .before .before .before .before .before .if1 in
+    let args· = c .before .before .before .before .before .before .before .before .before .before .before .before .before .before .args in
+    let opens-inside· = c .before .before .before .before .before .before .before .before .before .before .before .opens-inside in
+    let if1· = c .before .before .before .before .before .before .before .before .before .before .if1 in
     let react· = c .before .before .before .before .before .before .react in
     let effect· = c .before .before .effect in
-    let ends2· = c .ends2 in (
-      λ budget d out. byte-refused budget (args· .progress) (now (args· .cells)) (now (args· .places)) (now (args· .firsts)) d (now (args· .store)) out (args· .onward .cursor) (args· .byte) (sym (opens-inside· .ensures) ∙ if1· .left) (react· .result) (react· .last .1 .1 .0) (react· .last .1 .1 .1 .0) (react· .ensures .0) (effect· .given .0 .0) (effect· .given .1) (react· .ensures .1) (ends2· .result) (ends2· .ensures),
+    let ends2· = c .ends2 in
+    let set-read· = c .before .before .before .before .before .before .before .before .before .set-read in (
+      λ budget d out. byte-refused budget (args· .progress) (now (args· .cells)) (now (args· .places)) (now (args· .firsts)) d (now (args· .store)) out (args· .onward .cursor) (args· .byte) (sym (opens-inside· .ensures) ∙ if1· .left) (react· .result) (react· .last .1 .1 .0) (react· .last .1 .1 .1 .0) (react· .ensures .0 _ (set-read· .ensures)) (effect· .given .0 .0) (effect· .given .1) (react· .ensures .1) (ends2· .result) (ends2· .ensures),
       ends-due (args· .progress) (args· .progress) (ends2· .result) _ (ends2· .ensures),
     )
 
@@ -82,13 +84,14 @@ same-length-2 c = search needs
 
 returns-3 : tie.Need-returns-3
 returns-3 c =
-    let args· = c .before .before .before .before .before .before .before .before .before .before .before .before .before .before .before .before .args in
-    let opens-inside· = c .before .before .before .before .before .before .before .before .before .before .before .before .before .opens-inside in
-    let if1· = c .before .before .before .before .before .before .before .before .before .before .before .before .if1 in
+    let args· = c .before .before .before .before .before .before .before .before .before .before .before .before .before .before .before .before .before .args in
+    let opens-inside· = c .before .before .before .before .before .before .before .before .before .before .before .before .before .before .opens-inside in
+    let if1· = c .before .before .before .before .before .before .before .before .before .before .before .before .before .if1 in
     let react· = c .before .before .before .before .before .before .before .before .before .react in
     let effect2· = c .before .before .before .before .before .effect2 in
-    let call· = c .call in (
-      λ budget d out. byte-calls budget (args· .progress) (now (args· .cells)) (now (args· .places)) (now (args· .firsts)) d (now (args· .store)) out (args· .onward .cursor) (args· .byte) (sym (opens-inside· .ensures) ∙ if1· .left) (react· .result) (react· .last .1 .1 .0) (react· .last .1 .1 .1 .0) (react· .ensures .0) (effect2· .given .0 .0) (effect2· .given .1) (react· .ensures .1) (leftOf budget (args· .progress) (call· .result) (call· .last .1 .1 .1 .1 .0) (call· .last .1 .1 .1 .1 .1 .0) (react· .last .1 .1 .0) d (react· .last .1 .1 .1 .0) out) (call· .ensures .0 budget d (react· .last .1 .1 .1 .0) out),
+    let call· = c .call in
+    let set-read· = c .before .before .before .before .before .before .before .before .before .before .before .before .set-read in (
+      λ budget d out. byte-calls budget (args· .progress) (now (args· .cells)) (now (args· .places)) (now (args· .firsts)) d (now (args· .store)) out (args· .onward .cursor) (args· .byte) (sym (opens-inside· .ensures) ∙ if1· .left) (react· .result) (react· .last .1 .1 .0) (react· .last .1 .1 .1 .0) (react· .ensures .0 _ (set-read· .ensures)) (effect2· .given .0 .0) (effect2· .given .1) (react· .ensures .1) (leftOf budget (args· .progress) (call· .result) (call· .last .1 .1 .1 .1 .0) (call· .last .1 .1 .1 .1 .1 .0) (react· .last .1 .1 .0) d (react· .last .1 .1 .1 .0) out) (call· .ensures .0 budget d (react· .last .1 .1 .1 .0) out),
       call· .ensures .1,
     )
 
@@ -97,13 +100,14 @@ same-length-3 c = search needs
 
 returns-4 : tie.Need-returns-4
 returns-4 c =
-    let args· = c .before .before .before .before .before .before .before .before .before .before .before .before .before .before .before .args in
-    let opens-inside· = c .before .before .before .before .before .before .before .before .before .before .before .before .opens-inside in
-    let if1· = c .before .before .before .before .before .before .before .before .before .before .before .if1 in
+    let args· = c .before .before .before .before .before .before .before .before .before .before .before .before .before .before .before .before .args in
+    let opens-inside· = c .before .before .before .before .before .before .before .before .before .before .before .before .before .opens-inside in
+    let if1· = c .before .before .before .before .before .before .before .before .before .before .before .before .if1 in
     let react· = c .before .before .before .before .before .before .before .before .react in
     let effect3· = c .before .before .before .before .effect3 in
-    let ask· = c .ask in (
-      λ budget d out. byte-acts budget (args· .progress) (now (args· .cells)) (now (args· .places)) (now (args· .firsts)) d (now (args· .store)) out (args· .onward .cursor) (args· .byte) (sym (opens-inside· .ensures) ∙ if1· .left) (react· .result) (react· .last .1 .1 .0) (react· .last .1 .1 .1 .0) (react· .ensures .0) (effect3· .given .0 .0) (effect3· .given .1) (leftOf budget (args· .progress) (ask· .result) (ask· .last .1 .1 .1 .1 .0) (ask· .last .1 .1 .1 .1 .1 .0) (react· .last .1 .1 .0) d (react· .last .1 .1 .1 .0) out) (ask· .ensures .0 budget d (react· .last .1 .1 .0) (react· .last .1 .1 .1 .0) out),
+    let ask· = c .ask in
+    let set-read· = c .before .before .before .before .before .before .before .before .before .before .before .set-read in (
+      λ budget d out. byte-acts budget (args· .progress) (now (args· .cells)) (now (args· .places)) (now (args· .firsts)) d (now (args· .store)) out (args· .onward .cursor) (args· .byte) (sym (opens-inside· .ensures) ∙ if1· .left) (react· .result) (react· .last .1 .1 .0) (react· .last .1 .1 .1 .0) (react· .ensures .0 _ (set-read· .ensures)) (effect3· .given .0 .0) (effect3· .given .1) (leftOf budget (args· .progress) (ask· .result) (ask· .last .1 .1 .1 .1 .0) (ask· .last .1 .1 .1 .1 .1 .0) (react· .last .1 .1 .0) d (react· .last .1 .1 .1 .0) out) (ask· .ensures .0 budget d (react· .last .1 .1 .0) (react· .last .1 .1 .1 .0) out),
       ask· .ensures .1,
     )
 
@@ -112,13 +116,14 @@ same-length-4 c = search needs
 
 returns-5 : tie.Need-returns-5
 returns-5 c =
-    let args· = c .before .before .before .before .before .before .before .before .before .before .before .before .before .before .args in
-    let opens-inside· = c .before .before .before .before .before .before .before .before .before .before .before .opens-inside in
-    let if1· = c .before .before .before .before .before .before .before .before .before .before .if1 in
+    let args· = c .before .before .before .before .before .before .before .before .before .before .before .before .before .before .before .args in
+    let opens-inside· = c .before .before .before .before .before .before .before .before .before .before .before .before .opens-inside in
+    let if1· = c .before .before .before .before .before .before .before .before .before .before .before .if1 in
     let react· = c .before .before .before .before .before .before .before .react in
     let enum-told· = c .before .before .before .enum-told in
-    let idle· = c .idle in (
-      λ budget d out. byte-idle budget (args· .progress) (now (args· .cells)) (now (args· .places)) (now (args· .firsts)) d (now (args· .store)) out (args· .onward .cursor) (args· .byte) (sym (opens-inside· .ensures) ∙ if1· .left) (react· .result) (react· .last .1 .1 .0) (react· .last .1 .1 .1 .0) (react· .ensures .0) _ (enum-told· .given .1) refl (leftOf budget (args· .progress) (idle· .result) (idle· .last .1 .1 .1 .0) (idle· .last .1 .1 .1 .1 .0) (react· .last .1 .1 .0) d (react· .last .1 .1 .1 .0) out) (idle· .ensures .0 budget d (react· .last .1 .1 .0) (react· .last .1 .1 .1 .0) out),
+    let idle· = c .idle in
+    let set-read· = c .before .before .before .before .before .before .before .before .before .before .set-read in (
+      λ budget d out. byte-idle budget (args· .progress) (now (args· .cells)) (now (args· .places)) (now (args· .firsts)) d (now (args· .store)) out (args· .onward .cursor) (args· .byte) (sym (opens-inside· .ensures) ∙ if1· .left) (react· .result) (react· .last .1 .1 .0) (react· .last .1 .1 .1 .0) (react· .ensures .0 _ (set-read· .ensures)) _ (enum-told· .given .1) refl (leftOf budget (args· .progress) (idle· .result) (idle· .last .1 .1 .1 .0) (idle· .last .1 .1 .1 .1 .0) (react· .last .1 .1 .0) d (react· .last .1 .1 .1 .0) out) (idle· .ensures .0 budget d (react· .last .1 .1 .0) (react· .last .1 .1 .1 .0) out),
       idle· .ensures .1,
     )
 
@@ -127,13 +132,14 @@ same-length-5 c = search needs
 
 returns-6 : tie.Need-returns-6
 returns-6 c =
-    let args· = c .before .before .before .before .before .before .before .before .before .before .before .before .before .before .args in
-    let opens-inside· = c .before .before .before .before .before .before .before .before .before .before .before .opens-inside in
-    let if1· = c .before .before .before .before .before .before .before .before .before .before .if1 in
+    let args· = c .before .before .before .before .before .before .before .before .before .before .before .before .before .before .before .args in
+    let opens-inside· = c .before .before .before .before .before .before .before .before .before .before .before .before .opens-inside in
+    let if1· = c .before .before .before .before .before .before .before .before .before .before .before .if1 in
     let react· = c .before .before .before .before .before .before .before .react in
     let enum-told2· = c .before .before .before .enum-told2 in
-    let idle2· = c .idle2 in (
-      λ budget d out. byte-idle budget (args· .progress) (now (args· .cells)) (now (args· .places)) (now (args· .firsts)) d (now (args· .store)) out (args· .onward .cursor) (args· .byte) (sym (opens-inside· .ensures) ∙ if1· .left) (react· .result) (react· .last .1 .1 .0) (react· .last .1 .1 .1 .0) (react· .ensures .0) _ (enum-told2· .given .1) refl (leftOf budget (args· .progress) (idle2· .result) (idle2· .last .1 .1 .1 .0) (idle2· .last .1 .1 .1 .1 .0) (react· .last .1 .1 .0) d (react· .last .1 .1 .1 .0) out) (idle2· .ensures .0 budget d (react· .last .1 .1 .0) (react· .last .1 .1 .1 .0) out),
+    let idle2· = c .idle2 in
+    let set-read· = c .before .before .before .before .before .before .before .before .before .before .set-read in (
+      λ budget d out. byte-idle budget (args· .progress) (now (args· .cells)) (now (args· .places)) (now (args· .firsts)) d (now (args· .store)) out (args· .onward .cursor) (args· .byte) (sym (opens-inside· .ensures) ∙ if1· .left) (react· .result) (react· .last .1 .1 .0) (react· .last .1 .1 .1 .0) (react· .ensures .0 _ (set-read· .ensures)) _ (enum-told2· .given .1) refl (leftOf budget (args· .progress) (idle2· .result) (idle2· .last .1 .1 .1 .0) (idle2· .last .1 .1 .1 .1 .0) (react· .last .1 .1 .0) d (react· .last .1 .1 .1 .0) out) (idle2· .ensures .0 budget d (react· .last .1 .1 .0) (react· .last .1 .1 .1 .0) out),
       idle2· .ensures .1,
     )
 
@@ -144,6 +150,7 @@ interpret-spec =
     opens-inside-requires
     ends-requires
     returns
+    (λ c κs. search needs)
     react-requires
     enum-known-effect
     ends-requires-2

@@ -1,10 +1,10 @@
 use native.Mathlib.Omega.{arith}
 use mathlib.Core.Path.{sym, ap}
 use Prim.Native.Nat.{ℕ, _+_}
-use Rattle.advance.proofs.ProgressLaws.{placed-piece, after-body}
+use Rattle.turns.proofs.ProgressLaws.{placed-piece, placed-body}
 use borrow.Author.Needs.{needs}
-use Rattle.advance.proofs.drawn.after_run.Statement.{statement}
-use Rattle.advance.proofs.drawn.after_run.Tie as tie
+use Rattle.turns.proofs.progress.after_run.Statement.{statement}
+use Rattle.turns.proofs.progress.after_run.Tie as tie
 
 cast-progress : tie.Need-cast-progress
 cast-progress c = search needs
@@ -29,7 +29,7 @@ returns-2 : tie.Need-returns-2
 returns-2 c =
     let args· = c .before .before .before .args in
     let if1· = c .if1 in
-    ap (λ (n : ℕ). record { at = n; written = args· .written; steps = args· .progress .steps + args· .count; depth = args· .progress .depth; sets = args· .progress .sets; waiting = args· .progress .waiting }) (sym (after-body (args· .progress .depth) (args· .count) (args· .progress .at) (if1· .left)))
+    ap (λ (n : ℕ). record { at = n; written = args· .written; steps = args· .progress .steps + args· .count; depth = args· .progress .depth; sets = args· .progress .sets; waiting = args· .progress .waiting }) (sym (placed-body (args· .progress .depth) (args· .count) (args· .progress .at) (if1· .left)))
 
 pub after-run-spec : {M : Type 1} → statement M
 after-run-spec =

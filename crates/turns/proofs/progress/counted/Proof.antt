@@ -1,7 +1,7 @@
 use mathlib.Core.Path.{refl}
 use borrow.Author.Needs.{needs}
-use Rattle.turns.proofs.step.counted.Statement.{statement}
-use Rattle.turns.proofs.step.counted.Tie as tie
+use Rattle.turns.proofs.progress.counted.Statement.{statement}
+use Rattle.turns.proofs.progress.counted.Tie as tie
 
 sets-after-requires : tie.Need-sets-after-requires
 sets-after-requires c κs = search needs
