@@ -11,6 +11,11 @@ use lib.Dec.{ltb}
 use Rattle.rules.specs.Choice.{pick}
 use Rattle.listing.specs.Text.{decimalTo, decimal, twoDigits, fourDigits}
 
+-- A number of one digit
+pub one-digit : (n : ℕ) → n < 10 → decimal n ≡ (48 + n) ∷ []
+unfolding decimalTo
+one-digit n h = rw (lt-ltb n 10 h) refl
+
 -- A tenth of a number has a digit less
 tenth : (m n : ℕ) → n < 10 ^ suc (suc m) → n / 10 < 10 ^ suc m
 tenth m n h = div-lt-iff-lt-mul {k = 10} {x = n} {y = 10 ^ suc m} (omega arith) .1 (rw (pow-suc 10 (suc m)) at h)
@@ -30,22 +35,15 @@ decimal-length (suc m) (suc f) n h =
     shorter (suc m) n (decimalTo f (n / 10)) (ltb n 10) refl h (λ z. decimal-length m f (n / 10) (tenth m n h))
 
 -- Where so many digits are enough, more make no difference
-same-tens : (b : Bool) (n : ℕ) (xs ys : List ℕ) → xs ≡ ys
-    → pick b ((48 + n) ∷ []) (xs ++ ((48 + n % 10) ∷ [])) ≡ pick b ((48 + n) ∷ []) (ys ++ ((48 + n % 10) ∷ []))
-same-tens b n xs ys e = ap (λ (x : List ℕ). pick b ((48 + n) ∷ []) (x ++ ((48 + n % 10) ∷ []))) e
-
 enough : (f g n : ℕ) → n < 10 ^ suc f → f ≤ g → decimalTo (suc f) n ≡ decimalTo (suc g) n
 unfolding decimalTo
 enough zero g n h l = let t : n < 10 = omega arith in rw (lt-ltb n 10 t) refl
 enough (suc f) zero n h l = absurd (omega arith)
 enough (suc f) (suc g) n h l =
-    same-tens (ltb n 10) n (decimalTo (suc f) (n / 10)) (decimalTo (suc g) (n / 10)) (enough f g (n / 10) (tenth f n h) (omega arith))
+    ap (λ (x : List ℕ). pick (ltb n 10) ((48 + n) ∷ []) (x ++ ((48 + n % 10) ∷ [])))
+    (enough f g (n / 10) (tenth f n h) (omega arith))
 
 -- The last digit of a number, and the digits before it
-pub one-digit : (n : ℕ) → n < 10 → decimal n ≡ (48 + n) ∷ []
-unfolding decimalTo
-one-digit n h = rw (lt-ltb n 10 h) refl
-
 last-digit : (n : ℕ) → 10 ≤ n → n < 4294967296 → decimal n ≡ decimal (n / 10) ++ ((48 + n % 10) ∷ [])
 unfolding decimalTo
 last-digit n h l =
@@ -56,7 +54,7 @@ two-digits n h l =
     last-digit n h (omega arith) ∙ ap (λ (x : List ℕ). x ++ ((48 + n % 10) ∷ [])) (one-digit (n / 10) (omega arith))
 
 -- The last two digits
-pub last-two : (n : ℕ) → 100 ≤ n → n < 4294967296 → decimal n ≡ decimal (n / 100) ++ twoDigits (n % 100)
+last-two : (n : ℕ) → 100 ≤ n → n < 4294967296 → decimal n ≡ decimal (n / 100) ++ twoDigits (n % 100)
 last-two n h l =
     let tens : n / 10 / 10 ≡ n / 100 = omega arith in
     let high : n / 10 % 10 ≡ n % 100 / 10 = omega arith in

@@ -35,6 +35,7 @@ fn digit(n: u32) -> u8
     b'0' + n as u8
 }
 
+// A number below 100 in two digits.
 fn put_two(text: &mut [u8], at: usize, n: u32) -> usize
     requires { ⌜ (n < 100) × (at + 2 ≤ length (now text)) ⌝ }
     ensures { λ r. ⌜ Put at (twoDigits n) (now (text .entry)) (now (text .exit)) r ⌝ }
@@ -43,6 +44,7 @@ fn put_two(text: &mut [u8], at: usize, n: u32) -> usize
     put_byte(text, to, digit(n % 10))
 }
 
+// A number below 10,000 in four digits.
 fn put_four(text: &mut [u8], at: usize, n: u32) -> usize
     requires { ⌜ (n < 10000) × (at + 4 ≤ length (now text)) ⌝ }
     ensures { λ r. ⌜ Put at (fourDigits n) (now (text .entry)) (now (text .exit)) r ⌝ }
@@ -93,6 +95,7 @@ fn put_number(text: &mut [u8], at: usize, n: u32) -> usize
     put_four(text, to, n % 10000)
 }
 
+// A pattern in two's complement. Most are below 10, and are put at once.
 fn put_signed(text: &mut [u8], at: usize, pattern: u32) -> usize
     requires { ⌜ at + 11 ≤ length (now text) ⌝ }
     ensures { λ r. ⌜ Put at (signedDecimal pattern) (now (text .entry)) (now (text .exit)) r ⌝ }

@@ -60,9 +60,10 @@ loop-again c =
     let loop· = c .before .before .before .before .before .before .before .before .before .before .before .loop in
     let word-at· = c .before .before .before .before .before .before .before .before .word-at in
     let separator· = c .before .before .before .separator in
-    let field = joined (omega arith) (put-signed· .ensures .0) (put-byte· .ensures) in (
-      (λ l h p. rw (add-one, le-ltb (loop· .i) 8 (loop· .inv .1 .0), ← word-at· .ensures, ← separator· .ensures)
-          (joined h (loop· .inv .0 l h p) field)),
+    let coordinate = rw (word-at· .ensures) at (put-signed· .ensures .0) in
+    let end = rw (separator· .ensures) at (put-byte· .ensures) in
+    let field = joined (omega arith) coordinate end in (
+      (λ l h p. rw (add-one, le-ltb (loop· .i) 8 (loop· .inv .1 .0)) (joined h (loop· .inv .0 l h p) field)),
       (omega arith, (omega arith, (omega (arith, put-byte· .ensures .end), search needs))),
     )
 

@@ -19,7 +19,7 @@ returns c =
     let if1· = c .before .before .before .before .before .if1 in
     let digit· = c .before .before .before .digit in
     let put-byte· = c .before .before .put-byte in
-    rw (one-digit _ (if1· .taken), ← digit· .ensures) (put-byte· .ensures)
+    rw (one-digit _ (if1· .taken)) (rw (digit· .ensures) at (put-byte· .ensures))
 
 put-two-requires : tie.Need-put-two-requires
 put-two-requires c κs = search needs
@@ -53,7 +53,8 @@ returns-3 c =
     let digit2· = c .before .before .before .before .before .before .before .digit2 in
     let put-byte2· = c .before .before .before .before .before .before .put-byte2 in
     let put-two2· = c .before .before .put-two2 in
-    rw (three-digits _ (if2· .left) (if3· .taken), ← digit2· .ensures) (joined (omega arith) (put-byte2· .ensures) (put-two2· .ensures))
+    let hundreds = rw (digit2· .ensures) at (put-byte2· .ensures) in
+    rw (three-digits _ (if2· .left) (if3· .taken)) (joined (omega arith) hundreds (put-two2· .ensures))
 
 put-four-requires : tie.Need-put-four-requires
 put-four-requires c κs = search needs

@@ -25,7 +25,8 @@ returns c =
     let digit· = c .before .before .before .digit in
     let put-byte· = c .before .before .put-byte in
     let args· = c .before .before .before .before .before .before .before .args in
-    (rw (lt-ltb (args· .pattern) 2147483648 (omega arith), one-digit _ (if1· .taken), ← digit· .ensures) (put-byte· .ensures), omega (arith, put-byte· .ensures .end))
+    let known = rw (digit· .ensures) at (put-byte· .ensures) in
+    (rw (lt-ltb (args· .pattern) 2147483648 (omega arith), one-digit _ (if1· .taken)) known, omega (arith, known .end))
 
 put-number-requires : tie.Need-put-number-requires
 put-number-requires c κs = search needs
