@@ -1,41 +1,24 @@
 -- Numbers in decimal
 use mathlib.Core.Path.{_≡_, refl, ap, _∙_}
 use mathlib.Core.Bool.{Bool, true, false}
-use mathlib.Core.List.{List, [], _∷_, _++_}
-use Prim.Native.Nat.{ℕ, zero, suc, _+_, _-_, _/_, _%_, _^_, _≤_, _<_}
-use native.Mathlib.Nat.{pow-suc, pow-le-pow-right, mod-lt, mod-eq-of-lt, div-lt-iff-lt-mul, le-div-iff-mul-le}
+use mathlib.Core.List.{List, [], _∷_, _++_, append-assoc}
+use Prim.Native.Nat.{ℕ, zero, suc, _+_, _/_, _%_, _^_, _≤_, _<_}
+use native.Mathlib.Nat.{pow-suc, div-lt-iff-lt-mul}
 use native.Mathlib.Omega.{arith}
-use borrow.Author.Tests.{lt-ltb, le-ltb, ltb-false, leb-true, leb-false}
-use lib.ListN.{length, take, length-append}
-use lib.Dec.{ltb, leb}
+use borrow.Author.Tests.{lt-ltb, le-ltb, ltb-false}
+use lib.ListN.{length, length-append}
+use lib.Dec.{ltb}
 use Rattle.rules.specs.Choice.{pick}
-use Rattle.io.specs.Digits.{digits, Fewest}
-use Rattle.listing.specs.Text.{decimalTo, decimal}
+use Rattle.listing.specs.Text.{decimalTo, decimal, twoDigits, fourDigits}
+
+-- A number of one digit
+pub one-digit : (n : ℕ) → n < 10 → decimal n ≡ (48 + n) ∷ []
+unfolding decimalTo
+one-digit n h = rw (lt-ltb n 10 h) refl
 
 -- A tenth of a number has a digit less
 tenth : (m n : ℕ) → n < 10 ^ suc (suc m) → n / 10 < 10 ^ suc m
 tenth m n h = div-lt-iff-lt-mul {k = 10} {x = n} {y = 10 ^ suc m} (omega arith) .1 (rw (pow-suc 10 (suc m)) at h)
-
-tenth-least : (m n : ℕ) → 10 ^ suc m ≤ n → 10 ^ m ≤ n / 10
-tenth-least m n h = le-div-iff-mul-le {k = 10} {x = 10 ^ m} {y = n} (omega arith) .1 (rw (pow-suc 10 m) at h)
-
--- The fewest digits of a number are its decimal
-spelt : (k f n : ℕ) → n < 10 ^ suc k → (0 < k → 10 ^ k ≤ n) → k ≤ f → digits 10 (suc k) n ≡ decimalTo (suc f) n
-unfolding decimalTo
-spelt zero f n h g l = let t : n < 10 = omega arith in simp (mod-eq-of-lt t, lt-ltb n 10 t)
-spelt (suc k) zero n h g l = absurd (omega arith)
-spelt (suc k) (suc f) n h g l =
-    let least : 10 ^ suc k ≤ n = g (omega arith) in
-    let ten : 10 ^ 1 ≤ 10 ^ suc k = pow-le-pow-right {n = 10} (omega arith) {i = 1} {j = suc k} (omega arith) in
-    rw (le-ltb n 10 (omega arith), lt-ltb (n % 10) 10 (mod-lt n (omega arith)))
-    (ap (λ (x : List ℕ). x ++ ((48 + n % 10) ∷ []))
-    (spelt k f (n / 10) (tenth k n h) (λ z. tenth-least k n least) (omega arith)))
-
-pub fewest-decimal : (k n : ℕ) → Fewest 10 1 n k → k ≤ 20 → digits 10 k n ≡ decimal n
-fewest-decimal zero n h l = absurd (omega (arith, h .0))
-fewest-decimal (suc k) n h l =
-    let less : suc k - 1 ≡ k = omega arith in
-    spelt k 19 n (h .1) (λ z. rw less at (h .2 (omega arith))) (omega arith)
 
 -- How many digits a number has at most
 shorter : (m n : ℕ) (xs : List ℕ) (b : Bool) → ltb n 10 ≡ b → n < 10 ^ suc m → (0 < m → length xs ≤ m)
@@ -51,17 +34,52 @@ decimal-length zero (suc f) n h = shorter zero n (decimalTo f (n / 10)) (ltb n 1
 decimal-length (suc m) (suc f) n h =
     shorter (suc m) n (decimalTo f (n / 10)) (ltb n 10) refl h (λ z. decimal-length m f (n / 10) (tenth m n h))
 
--- A number below 2 to the power 32 has at most twenty digits
-few : (k n : ℕ) (b : Bool) → leb k 20 ≡ b → Fewest 10 1 n k → n < 4294967296 → k ≤ 20
-few k n true e f h = leb-true k 20 e
-few k n false e f h =
-    let more : 20 < k = leb-false k 20 e in
-    let p : 10 ^ 20 ≤ 10 ^ (k - 1) = pow-le-pow-right {n = 10} (omega arith) {i = 20} {j = k - 1} (omega arith) in
-    omega (arith, f .2 (omega arith))
+-- Where so many digits are enough, more make no difference
+enough : (f g n : ℕ) → n < 10 ^ suc f → f ≤ g → decimalTo (suc f) n ≡ decimalTo (suc g) n
+unfolding decimalTo
+enough zero g n h l = let t : n < 10 = omega arith in rw (lt-ltb n 10 t) refl
+enough (suc f) zero n h l = absurd (omega arith)
+enough (suc f) (suc g) n h l =
+    ap (λ (x : List ℕ). pick (ltb n 10) ((48 + n) ∷ []) (x ++ ((48 + n % 10) ∷ [])))
+    (enough f g (n / 10) (tenth f n h) (omega arith))
 
--- The digits of such a number
-pub written : (k n : ℕ) (xs : List ℕ) → n < 4294967296 → Fewest 10 1 n k → take k xs ≡ digits 10 k n
-    → (take k xs ≡ decimal n) × (length (take k xs) ≤ 10)
-written k n xs h f e =
-    let d : take k xs ≡ decimal n = e ∙ fewest-decimal k n f (few k n (leb k 20) refl f h) in
-    (d, rw d (decimal-length 9 20 n (omega arith)))
+-- The last digit of a number, and the digits before it
+last-digit : (n : ℕ) → 10 ≤ n → n < 4294967296 → decimal n ≡ decimal (n / 10) ++ ((48 + n % 10) ∷ [])
+unfolding decimalTo
+last-digit n h l =
+    rw (le-ltb n 10 h) (ap (λ (x : List ℕ). x ++ ((48 + n % 10) ∷ [])) (enough 18 19 (n / 10) (omega arith) (omega arith)))
+
+pub two-digits : (n : ℕ) → 10 ≤ n → n < 100 → decimal n ≡ twoDigits n
+two-digits n h l =
+    last-digit n h (omega arith) ∙ ap (λ (x : List ℕ). x ++ ((48 + n % 10) ∷ [])) (one-digit (n / 10) (omega arith))
+
+-- The last two digits
+last-two : (n : ℕ) → 100 ≤ n → n < 4294967296 → decimal n ≡ decimal (n / 100) ++ twoDigits (n % 100)
+last-two n h l =
+    let tens : n / 10 / 10 ≡ n / 100 = omega arith in
+    let high : n / 10 % 10 ≡ n % 100 / 10 = omega arith in
+    let low : n % 10 ≡ n % 100 % 10 = omega arith in
+    last-digit n (omega arith) l
+    ∙ ap (λ (x : List ℕ). x ++ ((48 + n % 10) ∷ [])) (last-digit (n / 10) (omega arith) (omega arith))
+    ∙ append-assoc (decimal (n / 10 / 10)) ((48 + n / 10 % 10) ∷ []) ((48 + n % 10) ∷ [])
+    ∙ rw (tens, high, low) refl
+
+pub three-digits : (n : ℕ) → 100 ≤ n → n < 1000 → decimal n ≡ (48 + n / 100) ∷ twoDigits (n % 100)
+three-digits n h l =
+    last-two n h (omega arith) ∙ ap (λ (x : List ℕ). x ++ twoDigits (n % 100)) (one-digit (n / 100) (omega arith))
+
+pub four-digits : (n : ℕ) → 1000 ≤ n → n < 10000 → decimal n ≡ fourDigits n
+four-digits n h l =
+    last-two n (omega arith) (omega arith)
+    ∙ ap (λ (x : List ℕ). x ++ twoDigits (n % 100)) (two-digits (n / 100) (omega arith) (omega arith))
+
+-- The last four digits
+pub last-four : (n : ℕ) → 10000 ≤ n → n < 4294967296 → decimal n ≡ decimal (n / 10000) ++ fourDigits (n % 10000)
+last-four n h l =
+    let hundreds : n / 100 / 100 ≡ n / 10000 = omega arith in
+    let high : n / 100 % 100 ≡ n % 10000 / 100 = omega arith in
+    let low : n % 100 ≡ n % 10000 % 100 = omega arith in
+    last-two n (omega arith) l
+    ∙ ap (λ (x : List ℕ). x ++ twoDigits (n % 100)) (last-two (n / 100) (omega arith) (omega arith))
+    ∙ append-assoc (decimal (n / 100 / 100)) (twoDigits (n / 100 % 100)) (twoDigits (n % 100))
+    ∙ rw (hundreds, high, low) refl

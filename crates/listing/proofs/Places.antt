@@ -1,19 +1,23 @@
 -- Text put at a place
-use mathlib.Core.Path.{_≡_, sym, ap, _∙_}
-use mathlib.Core.List.{List, [], _++_, append-nil}
+use mathlib.Core.Path.{_≡_, refl, sym, ap, _∙_}
+use mathlib.Core.List.{List, [], _∷_, _++_, append-nil}
 use Prim.Native.Nat.{ℕ, suc, _+_, _*_, _-_, _/_, _≤_, _<_, min}
 use native.Mathlib.Nat.{min-le-right, le-div-iff-mul-le}
 use native.Mathlib.Omega.{arith}
-use lib.ListN.{length, take, drop, length-append, length-drop, drop-of-length-le}
+use lib.ListN.{length, set, take, drop, length-append, length-drop, drop-of-length-le}
 use lib.Seq.{take-length, take-all, drop-drop, length-take-le}
 use Rattle.io.specs.Counts.{Counts}
 use Rattle.records.specs.Bytes.{overwrite}
-use Rattle.records.proofs.Writes.{then, overwrite-none}
+use Rattle.records.proofs.Writes.{stored, then, overwrite-none}
 use Rattle.listing.specs.Text.{Put}
 
 -- Nothing put
 pub nothing : (at : ℕ) (l : List ℕ) → Put at [] l l at
 nothing at l = record { text = sym (overwrite-none l at); end = omega arith }
+
+-- A byte stored
+pub stored-byte : (b at : ℕ) (l : List ℕ) → at < length l → Put at (b ∷ []) l (set l at b) (at + 1)
+stored-byte b at l h = record { text = stored (b ∷ []) l at (omega arith); end = refl }
 
 -- Text put right after other text
 pub joined : {at r r′ : ℕ} {bs cs l m n : List ℕ} → at ≤ length l

@@ -17,6 +17,13 @@ decimalTo (suc k) n =
 abbrev pub decimal : ℕ → List ℕ
 decimal n = decimalTo 20 n
 
+-- A number below 100 in two digits, one below 10,000 in four
+abbrev pub twoDigits : ℕ → List ℕ
+twoDigits n = (48 + n / 10) ∷ (48 + n % 10) ∷ []
+
+abbrev pub fourDigits : ℕ → List ℕ
+fourDigits n = twoDigits (n / 100) ++ twoDigits (n % 100)
+
 -- A 32-bit pattern in two's complement
 unfoldable pub signedDecimal : ℕ → List ℕ
 signedDecimal n = pick (ltb n 2147483648) (decimal n) (45 ∷ decimal (4294967296 - n))

@@ -2,10 +2,13 @@
 // What puts text at a place answers the place after it.
 use rules::RECORD_SIZE;
 ghost use mathlib.Core.Path.{_≡_};
+ghost use mathlib.Core.List.{[], _∷_};
 ghost use Prim.Native.Nat.{_+_, _*_, _/_, _≤_, _<_, min};
 ghost use lib.ListN.{length};
 ghost use Rattle.io.specs.Counts.{Counts};
-ghost use Rattle.listing.specs.Text.{decimal, signedDecimal, wordAt, fieldOf, separator, line, linesTo, closing, Put};
+ghost use Rattle.listing.specs.Text.{decimal, twoDigits, fourDigits, signedDecimal, wordAt, separator, fieldsTo, line, linesTo, closing, Put};
+
+const HEAD_FIELDS: usize = 8;
 
 const FIELDS: usize = 16;
 
@@ -17,25 +20,94 @@ pub fn put(text: &mut [u8], at: usize, bytes: &[u8]) -> usize
     at + n
 }
 
+fn put_byte(text: &mut [u8], at: usize, byte: u8) -> usize
+    requires { ⌜ at < length (now text) ⌝ }
+    ensures { λ r. ⌜ Put at (byte ∷ []) (now (text .entry)) (now (text .exit)) r ⌝ }
+{
+    text[at] = byte;
+    at + 1
+}
+
+fn digit(n: u32) -> u8
+    requires { ⌜ n < 10 ⌝ }
+    ensures { λ r. ⌜ r ≡ 48 + n ⌝ }
+{
+    b'0' + n as u8
+}
+
+// A number below 100 in two digits.
+fn put_two(text: &mut [u8], at: usize, n: u32) -> usize
+    requires { ⌜ (n < 100) × (at + 2 ≤ length (now text)) ⌝ }
+    ensures { λ r. ⌜ Put at (twoDigits n) (now (text .entry)) (now (text .exit)) r ⌝ }
+{
+    let to = put_byte(text, at, digit(n / 10));
+    put_byte(text, to, digit(n % 10))
+}
+
+// A number below 10,000 in four digits.
+fn put_four(text: &mut [u8], at: usize, n: u32) -> usize
+    requires { ⌜ (n < 10000) × (at + 4 ≤ length (now text)) ⌝ }
+    ensures { λ r. ⌜ Put at (fourDigits n) (now (text .entry)) (now (text .exit)) r ⌝ }
+{
+    let to = put_two(text, at, n / 100);
+    put_two(text, to, n % 100)
+}
+
+// A number of at most four digits.
+fn put_short(text: &mut [u8], at: usize, n: u32) -> usize
+    requires { ⌜ (n < 10000) × (at + 4 ≤ length (now text)) ⌝ }
+    ensures { λ r. ⌜ Put at (decimal n) (now (text .entry)) (now (text .exit)) r ⌝ }
+{
+    if n < 10 {
+        return put_byte(text, at, digit(n));
+    }
+    if n < 100 {
+        return put_two(text, at, n);
+    }
+    if n < 1000 {
+        let to = put_byte(text, at, digit(n / 100));
+        return put_two(text, to, n % 100);
+    }
+    put_four(text, at, n)
+}
+
+// A number of at most six digits.
+fn put_middle(text: &mut [u8], at: usize, n: u32) -> usize
+    requires { ⌜ (n < 1000000) × (at + 6 ≤ length (now text)) ⌝ }
+    ensures { λ r. ⌜ Put at (decimal n) (now (text .entry)) (now (text .exit)) r ⌝ }
+{
+    if n < 10000 {
+        return put_short(text, at, n);
+    }
+    let to = put_short(text, at, n / 10000);
+    put_four(text, to, n % 10000)
+}
+
 fn put_number(text: &mut [u8], at: usize, n: u32) -> usize
     requires { ⌜ at + 10 ≤ length (now text) ⌝ }
     ensures { λ r. ⌜ Put at (decimal n) (now (text .entry)) (now (text .exit)) r ⌝ }
     ensures { λ r. ⌜ r ≤ at + 10 ⌝ }
 {
-    let mut digits = [0u8; 20];
-    let k = io::decimal(n as u64, &mut digits);
-    put(text, at, &digits[..k])
+    if n < 10000 {
+        return put_short(text, at, n);
+    }
+    let to = put_middle(text, at, n / 10000);
+    put_four(text, to, n % 10000)
 }
 
+// A pattern in two's complement. Most are below 10, and are put at once.
 fn put_signed(text: &mut [u8], at: usize, pattern: u32) -> usize
     requires { ⌜ at + 11 ≤ length (now text) ⌝ }
     ensures { λ r. ⌜ Put at (signedDecimal pattern) (now (text .entry)) (now (text .exit)) r ⌝ }
     ensures { λ r. ⌜ r ≤ at + 11 ⌝ }
 {
+    if pattern < 10 {
+        return put_byte(text, at, digit(pattern));
+    }
     if pattern < 0x8000_0000 {
         return put_number(text, at, pattern);
     }
-    let to = put(text, at, b"-");
+    let to = put_byte(text, at, b'-');
     put_number(text, to, 0xffff_ffff - pattern + 1)
 }
 
@@ -56,15 +128,20 @@ fn word_at(bytes: &[u8], at: usize) -> u32
     b0 + 256 * b1 + 65536 * b2 + 16777216 * b3
 }
 
-fn put_field(text: &mut [u8], at: usize, bytes: &[u8], i: usize) -> usize
-    requires { ⌜ (length (now bytes) ≡ 40) × ((i < 16) × (at + 11 ≤ length (now text))) ⌝ }
-    ensures { λ r. ⌜ Put at (fieldOf (now (bytes .entry)) i) (now (text .entry)) (now (text .exit)) r ⌝ }
-    ensures { λ r. ⌜ r ≤ at + 11 ⌝ }
+// The fields that are bytes, each with the blank after it.
+fn put_head(text: &mut [u8], at: usize, bytes: &[u8]) -> usize
+    requires { ⌜ (length (now bytes) ≡ 40) × (at + 32 ≤ length (now text)) ⌝ }
+    ensures { λ r. ⌜ Put at (fieldsTo (now (bytes .entry)) 8) (now (text .entry)) (now (text .exit)) r ⌝ }
+    ensures { λ r. ⌜ r ≤ at + 32 ⌝ }
 {
-    if i < 8 {
-        return put_number(text, at, wide(bytes[i]));
+    let mut to = at;
+    let mut i: usize = 0;
+    while i < HEAD_FIELDS {
+        let end = put_short(text, to, wide(bytes[i]));
+        to = put_byte(text, end, b' ');
+        i += 1;
     }
-    put_signed(text, at, word_at(bytes, 4 * i - 24))
+    to
 }
 
 fn separator(i: usize) -> u8
@@ -74,30 +151,30 @@ fn separator(i: usize) -> u8
 }
 
 fn put_line(text: &mut [u8], at: usize, bytes: &[u8]) -> usize
-    requires { ⌜ (length (now bytes) ≡ 40) × (at + 192 ≤ length (now text)) ⌝ }
+    requires { ⌜ (length (now bytes) ≡ 40) × (at + 128 ≤ length (now text)) ⌝ }
     ensures { λ r. ⌜ Put at (line (now (bytes .entry))) (now (text .entry)) (now (text .exit)) r ⌝ }
-    ensures { λ r. ⌜ r ≤ at + 192 ⌝ }
+    ensures { λ r. ⌜ r ≤ at + 128 ⌝ }
 {
-    let mut to = at;
-    let mut i: usize = 0;
+    let mut to = put_head(text, at, bytes);
+    let mut i: usize = HEAD_FIELDS;
     while i < FIELDS {
-        let end = put_field(text, to, bytes, i);
-        to = put(text, end, &[separator(i)]);
+        let end = put_signed(text, to, word_at(bytes, 4 * i - 24));
+        to = put_byte(text, end, separator(i));
         i += 1;
     }
     to
 }
 
-fn least(a: usize, b: usize) -> usize
+pub fn least(a: usize, b: usize) -> usize
     ensures { λ r. ⌜ r ≡ min a b ⌝ }
 {
     if a < b { a } else { b }
 }
 
-// The lines of the records that were written to out. A line has at most 192 bytes: sixteen fields of at most eleven, and
-// the byte after each.
+// The lines of the records that were written to out. A line has at most 128 bytes: eight fields of at most three, eight of at
+// most eleven, and the byte after each.
 pub fn put_lines(text: &mut [u8], out: &[u8], written: usize) -> usize
-    requires { ⌜ 24 * length (now out) ≤ 5 * length (now text) ⌝ }
+    requires { ⌜ 16 * length (now out) ≤ 5 * length (now text) ⌝ }
     ensures { λ r. ⌜ Put 0 (linesTo (now (out .entry)) (min written (length (now (out .entry))) / 40)) (now (text .entry))
         (now (text .exit)) r ⌝ }
     ensures { λ r. ⌜ Counts r (now (text .exit)) ⌝ }

@@ -3,11 +3,12 @@
 // A line is printed for each group, one for all, and one for each reading that differs: page, cut and buffer.
 use demands::draw_cuts;
 use libc::STDOUT_FILENO;
+use listing::least;
 use reader::number::number_of;
 use rules::RECORD_SIZE;
 use rules::STORE_SIZE;
 ghost use mathlib.Core.Path.{_≡_};
-ghost use Prim.Native.Nat.{_≤_, _<_, min};
+ghost use Prim.Native.Nat.{_≤_, _<_};
 ghost use lib.ListN.{length};
 ghost use Rattle.io.specs.Counts.{Counts};
 
@@ -56,7 +57,7 @@ fn meet(listing: &[u8], met: usize, text: &[u8]) -> Met {
 fn meet_lines(listing: &[u8], met: usize, records: &[u8]) -> Met
     requires { ⌜ length (now records) ≤ 4000 ⌝ }
 {
-    let mut text = [0u8; 19200];
+    let mut text = [0u8; 12800];
     let n = listing::put_lines(&mut text, records, records.len());
     meet(listing, met, &text[..n])
 }
@@ -65,12 +66,6 @@ fn meet_closing(listing: &[u8], met: usize, number: u8, steps: u32) -> Met {
     let mut text = [0u8; 32];
     let n = listing::put_closing(&mut text, number, steps);
     meet(listing, met, &text[..n])
-}
-
-fn least(a: usize, b: usize) -> usize
-    ensures { λ r. ⌜ r ≡ min a b ⌝ }
-{
-    if a < b { a } else { b }
 }
 
 fn meet_records(listing: &[u8], records: &[u8]) -> Met {

@@ -7,13 +7,27 @@ use reader::feed::feed_from;
 use reader::number::number_of;
 use reader::open::open;
 use rules::Answer;
+use rules::RECORD_SIZE;
 use rules::STORE_SIZE;
 use rules::Session;
 ghost use mathlib.Core.Path.{_≡_};
 ghost use Prim.Native.Nat.{_<_};
+ghost use Rattle.io.specs.Counts.{Counts};
 ghost use Rattle.rules.specs.Reading.{stepsLeft};
 ghost use Rattle.rules.specs.Step.{stateLent};
 ghost use Rattle.reader.specs.PieceRead.{PieceRead};
+
+const PIECE_SIZE: usize = 65536;
+
+// The lines of so many records are written at a time.
+const RECORDS: usize = 1024;
+
+const OUTPUT_SIZE: usize = RECORDS * RECORD_SIZE;
+
+// No record's line is longer.
+const LINE_SIZE: usize = 128;
+
+const TEXT_SIZE: usize = RECORDS * LINE_SIZE;
 
 // What follows a piece: the next piece, the end of the page, or nothing, since a read or a write failed.
 enum Next {
@@ -33,33 +47,40 @@ fn turn_to(session: Session, next: Next) -> Turn
     Turn { session, next }
 }
 
-fn write_text(text: &[u8]) -> bool {
-    let is_written = io::write_all(STDOUT_FILENO, text);
+// Writes the first n bytes.
+fn write_text(text: &[u8], n: usize) -> bool
+    requires { ⌜ Counts n (now text) ⌝ }
+{
+    let is_written = io::write_all(STDOUT_FILENO, &text[..n]);
     if !is_written {
         os::fail(b"standard output");
     }
     is_written
 }
 
-fn write_lines(out: &[u8; 4000], written: usize) -> bool {
-    let mut text = [0u8; 19200];
-    let n = listing::put_lines(&mut text, out, written);
-    write_text(&text[..n])
+fn write_lines(out: &[u8; OUTPUT_SIZE], written: usize, text: &mut [u8; TEXT_SIZE]) -> bool {
+    let n = listing::put_lines(text, out, written);
+    write_text(text, n)
 }
 
 // Feeds a piece until it is read or a step is refused, and writes the lines of each call's records.
-fn feed_piece(session: Session, store: &mut [u8; STORE_SIZE], piece: &[u8]) -> Turn
+fn feed_piece(
+    session: Session,
+    store: &mut [u8; STORE_SIZE],
+    piece: &[u8],
+    out: &mut [u8; OUTPUT_SIZE],
+    text: &mut [u8; TEXT_SIZE],
+) -> Turn
     ensures { λ r. ⌜ ((r .next ≡ Next.Failed → ⊥) →
         PieceRead Next.Read Next.End (stateLent session (now (store .entry))) (now (piece .entry))
         (r .next) (stateLent (r .session) (now (store .exit)))) ⌝ }
 {
-    let mut out = [0u8; 4000];
     let mut session = session;
     let mut at: usize = 0;
     loop {
-        let fed = feed_from(session, store, piece, at, &mut out);
+        let fed = feed_from(session, store, piece, at, out);
         session = fed.session;
-        if !write_lines(&out, fed.written) {
+        if !write_lines(out, fed.written, text) {
             return turn_to(session, Next::Failed);
         }
         let answer = fed.answer;
@@ -72,27 +93,38 @@ fn feed_piece(session: Session, store: &mut [u8; STORE_SIZE], piece: &[u8]) -> T
 }
 
 // Feeds a piece of standard input. One that is read has bytes, so less of the budget is left, and the loop over pieces ends.
-fn read_once(session: Session, store: &mut [u8; STORE_SIZE]) -> Turn
+fn read_once(
+    session: Session,
+    store: &mut [u8; STORE_SIZE],
+    piece: &mut [u8],
+    out: &mut [u8; OUTPUT_SIZE],
+    text: &mut [u8; TEXT_SIZE],
+) -> Turn
     ensures { λ r. ⌜ (r .next ≡ Next.Read →
         stepsLeft (stateLent (r .session) (now (store .exit))) < stepsLeft (stateLent session (now (store .entry)))) ⌝ }
 {
-    let mut piece = io::buffer();
-    let got = libc::read(STDIN_FILENO, &mut piece);
+    let got = libc::read(STDIN_FILENO, piece);
     if got < 0 {
         os::fail(b"standard input");
         return turn_to(session, Next::Failed);
     }
-    let n = io::count(got, &piece);
+    let n = io::count(got, piece);
     if n == 0 {
         return turn_to(session, Next::End);
     }
-    feed_piece(session, store, &piece[..n])
+    feed_piece(session, store, &piece[..n], out, text)
 }
 
-fn read_page(session: Session, store: &mut [u8; STORE_SIZE]) -> Turn {
+fn read_page(
+    session: Session,
+    store: &mut [u8; STORE_SIZE],
+    piece: &mut [u8],
+    out: &mut [u8; OUTPUT_SIZE],
+    text: &mut [u8; TEXT_SIZE],
+) -> Turn {
     let mut session = session;
     loop {
-        let turn = read_once(session, store);
+        let turn = read_once(session, store, piece, out, text);
         session = turn.session;
         let next = turn.next;
         let Next::Read = next else {
@@ -101,27 +133,33 @@ fn read_page(session: Session, store: &mut [u8; STORE_SIZE]) -> Turn {
     }
 }
 
-fn end_page(session: Session, store: &[u8; STORE_SIZE]) {
-    let mut out = [0u8; 4000];
-    let ended = end(session, store, &mut out);
-    if !write_lines(&out, ended.written) {
+fn end_page(
+    session: Session,
+    store: &[u8; STORE_SIZE],
+    out: &mut [u8; OUTPUT_SIZE],
+    text: &mut [u8; TEXT_SIZE],
+) {
+    let ended = end(session, store, out);
+    if !write_lines(out, ended.written, text) {
         return;
     }
     let answer = ended.answer;
     let session = ended.session;
-    let mut text = [0u8; 32];
-    let n = listing::put_closing(&mut text, number_of(answer), session.steps);
-    write_text(&text[..n]);
+    let n = listing::put_closing(text, number_of(answer), session.steps);
+    write_text(text, n);
 }
 
 fn main() {
     let mut store = [0u8; STORE_SIZE];
     let opened = open(&mut store, u32::MAX);
     let session = opened.session;
-    let turn = read_page(session, &mut store);
+    let mut piece = [0u8; PIECE_SIZE];
+    let mut out = [0u8; OUTPUT_SIZE];
+    let mut text = [0u8; TEXT_SIZE];
+    let turn = read_page(session, &mut store, &mut piece, &mut out, &mut text);
     let session = turn.session;
     let next = turn.next;
     if let Next::End = next {
-        end_page(session, &store);
+        end_page(session, &store, &mut out, &mut text);
     }
 }

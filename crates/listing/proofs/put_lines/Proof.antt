@@ -13,7 +13,7 @@ use Rattle.listing.proofs.put_lines.Tie as tie
 
 abbrev Inv-loop : tie.InvT-loop
 Inv-loop text₀ out written records to₀ i₀ text to i =
-    Put 0 (linesTo out i) text₀ text to × ((i ≤ records) × ((to ≤ 192 * i) × (length text ≡ length text₀)))
+    Put 0 (linesTo out i) text₀ text to × ((i ≤ records) × ((to ≤ 128 * i) × (length text ≡ length text₀)))
 
 abbrev μ-loop : tie.MeasureT-loop
 μ-loop text₀ out written records to₀ i₀ text to i = records - i

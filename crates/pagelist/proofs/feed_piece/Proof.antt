@@ -1,7 +1,6 @@
 use borrow.Author.Needs.{needs}
 use native.Mathlib.Omega.{arith}
 use mathlib.Core.Path.{_≡_, refl, ap}
-use lib.ListN.{length}
 use Rattle.rules.specs.Reading.{stepsLeft}
 use Rattle.rules.specs.Step.{stateLent}
 use Rattle.reader.proofs.PieceLaws.{PieceUnread, piece-first, piece-within, piece-on, piece-less, piece-read}
@@ -10,17 +9,14 @@ use Rattle.pagelist.proofs.feed_piece.Statement.{statement}
 use Rattle.pagelist.proofs.feed_piece.Tie as tie
 
 abbrev Inv-loop : tie.InvT-loop
-Inv-loop store₀ piece out₀ session₀ at₀ store out session at =
-    (4000 ≡ length out) × PieceUnread (stateLent session₀ store₀) piece at (stateLent session store)
+Inv-loop store₀ piece out₀ text₀ session₀ at₀ store out text session at =
+    PieceUnread (stateLent session₀ store₀) piece at (stateLent session store)
 
 abbrev μ-loop : tie.MeasureT-loop
-μ-loop store₀ piece out₀ session₀ at₀ store out session at = stepsLeft (stateLent session store)
+μ-loop store₀ piece out₀ text₀ session₀ at₀ store out text session at = stepsLeft (stateLent session store)
 
 loop-holds : tie.Need-loop-holds Inv-loop μ-loop
-loop-holds c = (search needs, piece-first _ _)
-
-slice-aggregate-feed-from : tie.Need-slice-aggregate-feed-from Inv-loop μ-loop
-slice-aggregate-feed-from c = search needs
+loop-holds c = piece-first _ _
 
 feed-from-requires : tie.Need-feed-from-requires Inv-loop μ-loop
 feed-from-requires c κs = search needs
@@ -48,7 +44,7 @@ returns-2 c =
     let loop· = c .before .before .before .before .before .before .before .before .before .before .before .loop in
     let feed-from· = c .before .before .before .before .before .before .before .before .feed-from in
     let enum-told· = c .before .enum-told in
-    λ f. rw (turn-to2· .ensures) (piece-read (loop· .inv .1) (feed-from· .ensures) (rw (enum-told· .given .1) refl))
+    λ f. rw (turn-to2· .ensures) (piece-read (loop· .inv) (feed-from· .ensures) (rw (enum-told· .given .1) refl))
 
 enum-told-2 : tie.Need-enum-told-2 Inv-loop μ-loop
 enum-told-2 c = search needs
@@ -62,7 +58,7 @@ returns-3 c =
     let loop· = c .before .before .before .before .before .before .before .before .before .before .before .loop in
     let feed-from· = c .before .before .before .before .before .before .before .before .feed-from in
     let enum-told2· = c .before .enum-told2 in
-    λ f. rw (turn-to3· .ensures) (piece-read (loop· .inv .1) (feed-from· .ensures) (rw (enum-told2· .given .1) refl))
+    λ f. rw (turn-to3· .ensures) (piece-read (loop· .inv) (feed-from· .ensures) (rw (enum-told2· .given .1) refl))
 
 enum-told-3 : tie.Need-enum-told-3 Inv-loop μ-loop
 enum-told-3 c = search needs
@@ -72,21 +68,22 @@ add-at c =
     let good· = c .before .before .before .before .before .before .before .before .before .before .before .before .before .good in
     let loop· = c .before .before .before .before .before .before .before .before .before .before .before .loop in
     let feed-from· = c .before .before .before .before .before .before .before .before .feed-from in
-    omega (arith, good·, piece-within (loop· .inv .1) (feed-from· .ensures))
+    omega (arith, good·, piece-within (loop· .inv) (feed-from· .ensures))
 
 loop-less : tie.Need-loop-less Inv-loop μ-loop
 loop-less c =
     let loop· = c .before .before .before .before .before .before .before .before .before .before .before .loop in
     let feed-from· = c .before .before .before .before .before .before .before .before .feed-from in
     let enum-told3· = c .before .enum-told3 in
-    piece-less (loop· .inv .1) (feed-from· .ensures) (search needs) (enum-told3· .given .1)
+    let feed-from-arg2· = c .before .before .before .before .before .before .before .before .before .feed-from-arg2 in
+    piece-less (loop· .inv) (feed-from· .ensures) (omega (arith, feed-from-arg2· .given)) (enum-told3· .given .1)
 
 loop-again : tie.Need-loop-again Inv-loop μ-loop
 loop-again c =
     let loop· = c .before .before .before .before .before .before .before .before .before .before .before .loop in
     let feed-from· = c .before .before .before .before .before .before .before .before .feed-from in
     let enum-told3· = c .before .enum-told3 in
-    (search needs, piece-on (loop· .inv .1) (feed-from· .ensures) (enum-told3· .given .1))
+    piece-on (loop· .inv) (feed-from· .ensures) (enum-told3· .given .1)
 
 pub feed-piece-spec : {M : Type 1} → statement M
 feed-piece-spec =
@@ -95,7 +92,6 @@ feed-piece-spec =
     Inv-loop
     μ-loop
     loop-holds
-    slice-aggregate-feed-from
     feed-from-requires
     write-lines-requires
     turn-to-requires

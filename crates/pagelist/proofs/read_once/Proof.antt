@@ -14,12 +14,6 @@ read-failed e = let z : _≡_ {A = ℕ} 0 1 = cc in omega arith
 read-end : Read ≡ End → ⊥
 read-end e = let z : _≡_ {A = ℕ} 0 1 = cc in omega arith
 
-buffer-requires : tie.Need-buffer-requires
-buffer-requires c κs = search needs
-
-slice-aggregate-read : tie.Need-slice-aggregate-read
-slice-aggregate-read c = search needs
-
 read-requires : tie.Need-read-requires
 read-requires c κs = search needs
 
@@ -32,13 +26,13 @@ fail-requires c κs = search needs
 turn-to-requires : tie.Need-turn-to-requires
 turn-to-requires c κs = search needs
 
+same-length : tie.Need-same-length
+same-length c = search needs
+
 returns : tie.Need-returns
 returns c =
     let turn-to· = c .turn-to in
     λ e. absurd (read-failed (sym e ∙ ap (λ (t : Turn). t .next) (turn-to· .ensures)))
-
-slice-aggregate-count : tie.Need-slice-aggregate-count
-slice-aggregate-count c = search needs
 
 count-requires : tie.Need-count-requires
 count-requires c κs = search needs
@@ -46,13 +40,16 @@ count-requires c κs = search needs
 turn-to-requires-2 : tie.Need-turn-to-requires-2
 turn-to-requires-2 c κs = search needs
 
+same-length-2 : tie.Need-same-length-2
+same-length-2 c = search needs
+
 returns-2 : tie.Need-returns-2
 returns-2 c =
     let turn-to2· = c .turn-to2 in
     λ e. absurd (read-end (sym e ∙ ap (λ (t : Turn). t .next) (turn-to2· .ensures)))
 
-array-share-prefix-piece : tie.Need-array-share-prefix-piece
-array-share-prefix-piece c = search needs
+slice-reshare-prefix-feed-piece : tie.Need-slice-reshare-prefix-feed-piece
+slice-reshare-prefix-feed-piece c = search needs
 
 slice-aggregate-feed-piece : tie.Need-slice-aggregate-feed-piece
 slice-aggregate-feed-piece c = search needs
@@ -60,11 +57,14 @@ slice-aggregate-feed-piece c = search needs
 feed-piece-requires : tie.Need-feed-piece-requires
 feed-piece-requires c κs = search needs
 
+same-length-3 : tie.Need-same-length-3
+same-length-3 c = search needs
+
 returns-3 : tie.Need-returns-3
 returns-3 c =
     let feed-piece· = c .feed-piece in
-    let count· = c .before .before .before .before .count in
-    let if2· = c .before .before .before .if2 in
+    let count· = c .before .before .before .before .before .before .count in
+    let if2· = c .before .before .before .before .before .if2 in
     λ e.
     read-less (feed-piece· .ensures (λ f. read-failed (sym e ∙ f))) read-end e (omega (arith, count· .ensures .0 .1, if2· .left))
 
@@ -72,18 +72,18 @@ pub read-once-spec : {M : Type 1} → statement M
 read-once-spec =
     tie.close
     (tie.spec
-    buffer-requires
-    slice-aggregate-read
     read-requires
     slice-aggregate-fail
     fail-requires
     turn-to-requires
+    same-length
     returns
-    slice-aggregate-count
     count-requires
     turn-to-requires-2
+    same-length-2
     returns-2
-    array-share-prefix-piece
+    slice-reshare-prefix-feed-piece
     slice-aggregate-feed-piece
     feed-piece-requires
+    same-length-3
     returns-3)
