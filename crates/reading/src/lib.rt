@@ -146,7 +146,7 @@ pub fn read(session: Session, store: &mut [u8], piece: &[u8], out: &mut [u8]) ->
                     out,
                     at,
                 );
-                if drawn.refused {
+                if drawn.too_many_vertices {
                     let answer = Answer::Refused(Refusal::TooManyVertices);
                     let progress = at_depth(progress, depth);
                     return finish(

@@ -274,10 +274,10 @@ pub fn draw(
     ensures drawn { λ r. ⌜ carriedOf r (now (map .exit)) (now (out .exit))
         ≡ carryOut (act action) (drawingOf pen command look (now (map .entry))) at (now (out .entry)) ⌝ }
     ensures bodies { λ r. ⌜ bodiesOf depth (now (cells .exit)) (now (places .exit))
-        ≡ readOnIf (r .refused) depth cursor (bodiesOf depth (now (cells .entry)) (now (places .entry))) ⌝ }
+        ≡ readOnIf (r .«too_many_vertices») depth cursor (bodiesOf depth (now (cells .entry)) (now (places .entry))) ⌝ }
 {
     let drawn = act(action, pen, command, look, map, out, at);
-    if drawn.refused {
+    if drawn.too_many_vertices {
         return drawn;
     }
     read_on(cells, places, depth, cursor);
