@@ -1,3 +1,3 @@
 pub mod PointLaws
-pub mod FinishLaws
+pub mod OpeningLaws
 pub mod CommandLaws

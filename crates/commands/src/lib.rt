@@ -1,8 +1,8 @@
 // A run of the PDI set: points that come whole, opcodes and recorded controls.
-pub mod finishing;
+pub mod opening;
 pub mod points;
 
-use crate::finishing::open_next;
+use crate::opening::open_next;
 use crate::points::point_due;
 use coordinates::whole::Whole;
 use coordinates::whole::are_data;

@@ -1,6 +1,5 @@
 use Rattle.figures.proofs.FinishLaws.{finish-arc, finish-edge, finish-edgeless, finish-plain}
 use borrow.Author.Needs.{needs}
-use native.Mathlib.Omega.{arith}
 use Rattle.figures.proofs.finishing.finish.Statement.{statement}
 use Rattle.figures.proofs.finishing.finish.Tie as tie
 

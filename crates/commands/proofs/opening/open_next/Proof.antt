@@ -3,11 +3,11 @@ use mathlib.Core.Path.{sym, ap, _∙_}
 use Rattle.rules.specs.declared.Command.{Command}
 use Rattle.rules.specs.Drawing.{rowOf}
 use Rattle.figures.proofs.Carrying.{puts-carried}
-use Rattle.commands.proofs.FinishLaws.{closed, next-control, next-opened}
+use Rattle.commands.proofs.OpeningLaws.{closed, next-control, next-opened}
 use Rattle.commands.proofs.CommandLaws.{row-control}
 use borrow.Author.Needs.{needs}
-use Rattle.commands.proofs.finishing.open_next.Statement.{statement}
-use Rattle.commands.proofs.finishing.open_next.Tie as tie
+use Rattle.commands.proofs.opening.open_next.Statement.{statement}
+use Rattle.commands.proofs.opening.open_next.Tie as tie
 
 finish-requires : tie.Need-finish-requires
 finish-requires c κs =
