@@ -28,6 +28,7 @@ pub record Inks (ink : Head) (pel : Point) (l : Look) : Type 0 where
   pub head : (p q r : Point) → headBytes ink ≡ headOf (recordOf l 0 0 0 0 p q r)
   pub size : pel ≡ l .domain .pel
 
+-- A pen at a point, with an operand begun or not
 abbrev pub penAt : Point → Operand → Pen
 penAt p o = record { point = p; operand = o }
 

@@ -19,6 +19,7 @@ pub struct Finished {
     pub point: Point,
 }
 
+// Whether SELECT COLOUR's first operand is due.
 pub fn is_foreground(role: Role) -> bool
     ensures { λ r. ⌜ r ≡ isForeground role ⌝ }
 {

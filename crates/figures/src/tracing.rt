@@ -96,6 +96,7 @@ pub fn put_figure(figure: Figure, ink: Head, pel: Point, out: &mut [u8], at: usi
     at + RECORD_SIZE
 }
 
+// Whether one of two sums left the range.
 fn either(a: bool, b: bool) -> bool
     ensures { λ r. ⌜ r ≡ (a || b) ⌝ }
 {
