@@ -8,18 +8,6 @@ use borrow.Author.Needs.{needs}
 use Rattle.drawing.proofs.opening.put_mark.Statement.{statement}
 use Rattle.drawing.proofs.opening.put_mark.Tie as tie
 
-with-kind-requires : tie.Need-with-kind-requires
-with-kind-requires c κs = search needs
-
-with-code-requires : tie.Need-with-code-requires
-with-code-requires c κs = search needs
-
-put-words-requires : tie.Need-put-words-requires
-put-words-requires c κs = search needs
-
-same-length : tie.Need-same-length
-same-length c = search needs
-
 returns : tie.Need-returns
 returns c =
     let put-words· = c .before .before .put-words in
@@ -31,4 +19,4 @@ returns c =
 pub put-mark-spec : {M : Type 1} → statement M
 put-mark-spec =
     tie.close
-    (tie.spec with-kind-requires with-code-requires put-words-requires same-length returns)
+    (tie.spec (λ c κs. search needs) (λ c κs. search needs) (λ c κs. search needs) (λ c. search needs) returns)
