@@ -32,11 +32,12 @@ use Rattle.rules.proofs.OpcodeRows.{row-at}
 use Rattle.rules.proofs.Tables.{at}
 use Rattle.rules.proofs.Bools.{false-true, and-left, and-right, pick-yes, pick-no}
 use Rattle.figures.specs.Carried.{Carried, carry, drawingOf}
+use Rattle.figures.specs.Tracing.{penAt}
 use Rattle.figures.proofs.Carrying.{carry-none}
 use Rattle.runs.specs.declared.Ran.{Ran}
 use Rattle.runs.specs.Run.{ActsAs, Run, none, more, standing}
 use Rattle.runs.specs.Strokes.{penAfter}
-use Rattle.commands.specs.Tracing.{penAt, asked}
+use Rattle.commands.specs.Asked.{asked}
 use Rattle.runs.proofs.ActsLaws.{data-acts, control-acts, opcode-acts}
 
 -- A step more, its answer given

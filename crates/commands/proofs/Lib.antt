@@ -1,4 +1,3 @@
-pub mod TraceLaws
 pub mod PointLaws
-pub mod FinishLaws
+pub mod OpeningLaws
 pub mod CommandLaws

@@ -1,1 +1,1 @@
-pub mod Tracing
+pub mod Asked

@@ -1,18 +1,19 @@
 // A run of the PDI set: points that come whole, opcodes and recorded controls.
-pub mod finishing;
+pub mod opening;
 pub mod points;
-pub mod tracing;
 
-use crate::finishing::is_foreground;
-use crate::finishing::open_next;
+use crate::opening::open_next;
 use crate::points::point_due;
-use crate::tracing::trace;
 use coordinates::whole::Whole;
 use coordinates::whole::are_data;
 use coordinates::whole::three_bytes;
 use drawing::operands::resting;
 use drawing::operands::role_due;
 use drawing::operands::with_due;
+use figures::finishing::is_foreground;
+use figures::tracing::put_figure;
+use figures::tracing::target;
+use figures::tracing::trace;
 use records::head_of;
 use rules::Command;
 use rules::Look;
@@ -34,9 +35,10 @@ ghost use lib.ListN.{length};
 ghost use Rattle.rules.specs.declared.Role.{Role};
 ghost use Rattle.rules.specs.declared.Set.{Set};
 ghost use Rattle.rules.specs.Ranges.{domainFits, commandFits};
+ghost use Rattle.figures.specs.Tracing.{isForeground};
 ghost use Rattle.runs.specs.Run.{ActsAs, Run, standing};
 ghost use Rattle.runs.specs.Strokes.{penAfter};
-ghost use Rattle.commands.specs.Tracing.{isForeground, asked};
+ghost use Rattle.commands.specs.Asked.{asked};
 
 // Whether four points of three bytes come at a place.
 fn is_long(bytes: &[u8], place: usize, to: usize) -> bool
@@ -152,7 +154,7 @@ pub fn run_commands(
             at = opened.at;
             point = opened.point;
             command = opened.command;
-            row = opened.row;
+            row = next;
             place += 1;
             if leaves_strokes(byte, bytes, place, to) {
                 return after(place - from, at, pen, point, command);
@@ -169,10 +171,11 @@ pub fn run_commands(
                 continue;
             }
             Whole::Whole(v) => {
-                let t = trace(role, row, v, point, command, ink, pel, out, at);
-                at = t.at;
-                point = t.point;
-                command = with_due(row, t.command);
+                let aimed = target(role, point, v);
+                let traced = trace(role, row, aimed.outside, aimed.point, point, command);
+                at = put_figure(traced.figure, ink, pel, out, at);
+                point = traced.point;
+                command = with_due(row, traced.command);
                 place += n;
                 continue;
             }

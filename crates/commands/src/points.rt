@@ -1,7 +1,7 @@
 // Points that come whole.
-use crate::tracing::is_point;
 use coordinates::whole::Whole;
 use coordinates::whole::whole_point;
+use figures::tracing::is_point;
 use rules::Point;
 use rules::Role;
 ghost use mathlib.Core.Path.{_≡_};
@@ -9,7 +9,7 @@ ghost use mathlib.Core.Bool.{true};
 ghost use Prim.Native.Nat.{_+_, _≤_};
 ghost use lib.ListN.{length, take, drop};
 ghost use Rattle.coordinates.specs.Data.{wholeOf};
-ghost use Rattle.commands.specs.Tracing.{isPoint};
+ghost use Rattle.figures.specs.Tracing.{isPoint};
 
 // The point at a place, where it can be traced and its bytes have come.
 pub(crate) fn point_due(

@@ -3,18 +3,14 @@
 use Prim.Native.Nat.{ℕ, _+_, _≤_, zero-le}
 use native.Mathlib.Omega.{arith}
 use mathlib.Core.Path.{_≡_, refl, sym, ap, _∙_}
-use mathlib.Core.Bool.{Bool, true, false}
-use mathlib.Core.List.{List, [], _∷_}
+use mathlib.Core.Bool.{true, false}
+use mathlib.Core.List.{List, []}
 use lib.ListN.{length}
 use lib.Dec.{eqb}
-use types.Run.{OneOf, miss}
-use denote.Enum.Declared.{tagOf}
 use borrow.Author.Tests.{eq-eqb, ne-eqb}
-use Rattle.rules.proofs.Role.{the-type as the-role}
 use Rattle.rules.specs.declared.Drawing.{Drawing}
 use Rattle.rules.specs.declared.Row.{Row}
 use Rattle.rules.specs.declared.Role.{Role}
-use Rattle.rules.specs.declared.Role.the-variants.{MoveTo, DrawTo, DrawBy, Middle, ArcEnd, Start, Edge, Lengths, Pel, Foreground, Background, Shade, Dropped}
 use Rattle.rules.specs.Numbers.{recordSize, origin}
 use Rattle.rules.specs.Drawing.{rowOf, withCommand, withOperand, noOperand, Outcome, NotDrawn, Draw, andThen, roleDue, applyBegun, complete, finish, newCommand, close}
 use Rattle.rules.proofs.Bools.{pick-yes, pick-no, pick-all}
@@ -47,26 +43,6 @@ module _ (r : Row) (d : Drawing) (at : ℕ) (l : List ℕ) where
 -- Closing writes at most two
 pub close-place : (d : Drawing) (at : ℕ) (l : List ℕ) (x : Carried) → x ≡ carry (close d) d at l → x .at ≤ at + 80
 close-place d at l x e = omega (arith, carry-most 2 (close d) d at l (close-most d), ap (λ (y : Carried). y .at) e)
-
--- The roles that finish with nothing
-abbrev plain : List ℕ
-plain = 0 ∷ 1 ∷ 2 ∷ 3 ∷ 5 ∷ 7 ∷ 8 ∷ 10 ∷ 11 ∷ 12 ∷ []
-
-pub finish-nothing : (x : Role) (filled : Bool) (d : Drawing) → OneOf plain (tagOf the-role x) → finish x filled d ≡ Draw d []
-unfolding finish
-finish-nothing MoveTo filled d h = refl
-finish-nothing DrawTo filled d h = refl
-finish-nothing DrawBy filled d h = refl
-finish-nothing Middle filled d h = refl
-finish-nothing ArcEnd filled d h = absurd (miss plain 4 tt h)
-finish-nothing Start filled d h = refl
-finish-nothing Edge filled d h = absurd (miss plain 6 tt h)
-finish-nothing Lengths filled d h = refl
-finish-nothing Pel filled d h = refl
-finish-nothing Foreground filled d h = absurd (miss plain 9 tt h)
-finish-nothing Background filled d h = refl
-finish-nothing Shade filled d h = refl
-finish-nothing Dropped filled d h = refl
 
 -- An outcome that draws is not answered by a refusal
 draws-so : (o : Outcome) (d : Drawing) (at : ℕ) (l : List ℕ) (x : Carried) → Draws o → x ≡ carry o d at l → x .refused ≡ false

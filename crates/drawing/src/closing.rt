@@ -3,9 +3,11 @@ use crate::operands::apply_begun;
 use crate::operands::resting;
 use crate::operands::role_due;
 use figures::Drawn;
+use figures::answers::moved;
 use figures::answers::no_record;
-use figures::arcs::arc_to;
-use figures::polygons::closing_edge;
+use figures::finishing;
+use figures::tracing::put_figure;
+use records::head_of;
 use rules::Colour;
 use rules::Command;
 use rules::Due;
@@ -60,10 +62,10 @@ fn direct(look: Look) -> Look
     Look { domain, colour }
 }
 
-// An arc with a middle but no end is a circle, a polygon has its closing edge, SELECT COLOUR with no operand sets mode 0.
+// SELECT COLOUR with no operand sets mode 0; other commands finish by a figure or none.
 fn finish(
     role: Role,
-    filled: bool,
+    row: Row,
     pen: Pen,
     command: Command,
     look: Look,
@@ -71,13 +73,21 @@ fn finish(
     at: usize,
 ) -> Drawn
     requires { ⌜ at + recordSize ≤ length (now out) ⌝ }
-    ensures { λ r. ⌜ DrawsBy (finish role filled) pen command look at (now (out .entry)) r (now (out .exit)) ⌝ }
+    ensures { λ r. ⌜ DrawsBy (finish role (row .filled)) pen command look at (now (out .entry)) r (now (out .exit)) ⌝ }
 {
-    match role {
-        Role::ArcEnd => arc_to(filled, false, command.start, pen, command, look, out, at),
-        Role::Edge => closing_edge(filled, pen, command, look, out, at),
-        Role::Foreground => no_record(pen, command, direct(look), at),
-        _ => no_record(pen, command, look, at),
+    if let Role::Foreground = role {
+        return no_record(pen, command, direct(look), at);
+    }
+    let done = finishing::finish(role, row, pen.point, command);
+    let ink = head_of(look, 0, 0, 0, 0);
+    let at = put_figure(done.figure, ink, look.domain.pel, out, at);
+    let pen = moved(pen, done.point);
+    Drawn {
+        too_many_vertices: false,
+        at,
+        pen,
+        command,
+        look,
     }
 }
 
@@ -111,19 +121,11 @@ pub(crate) fn close(
         ≡ carryOut close (drawingOf pen command look (now (map .entry))) at (now (out .entry)) ⌝ }
 {
     let done = complete(row, pen, command, look, map, out, at);
-    if done.refused {
+    if done.too_many_vertices {
         return done;
     }
     let role = role_due(row, done.command);
-    let done = finish(
-        role,
-        row.filled,
-        done.pen,
-        done.command,
-        done.look,
-        out,
-        done.at,
-    );
+    let done = finish(role, row, done.pen, done.command, done.look, out, done.at);
     no_record(
         resting(done.pen.point),
         new_command(0, ORIGIN),

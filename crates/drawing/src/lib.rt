@@ -1,14 +1,17 @@
 // The drawing layer: an action becomes records and a change of the drawing state, or a refusal.
 pub mod closing;
+pub mod opening;
 pub mod operands;
 pub mod ranges;
 
 use crate::closing::close;
-use crate::closing::new_command;
+use crate::opening::open_at;
 use crate::operands::data_byte;
 use figures::Drawn;
+use figures::answers::moved;
 use figures::answers::no_record;
 use figures::answers::one_record;
+use records::head_of;
 use records::mark;
 use records::set_number;
 use rules::Action;
@@ -22,25 +25,11 @@ ghost use mathlib.Core.Bool.{true};
 ghost use mathlib.Core.List.{[], _∷_};
 ghost use Prim.Native.Nat.{_+_, _≤_};
 ghost use lib.ListN.{length};
-ghost use Rattle.rules.specs.Numbers.{recordSize, roomForStep};
+ghost use Rattle.rules.specs.Numbers.{roomForStep};
 ghost use Rattle.rules.specs.Record.{mark};
 ghost use Rattle.rules.specs.Drawing.{rowOf, Draw, andThen, close, openCommand, act};
 ghost use Rattle.rules.specs.Ranges.{drawingFits};
-ghost use Rattle.figures.specs.Carried.{carryOut, drawingOf, carriedOf, DrawsBy};
-
-// Opens a command where none is open: whatever the closed one left is replaced.
-fn open_command(opcode: u8, pen: Pen, look: Look, out: &mut [u8], at: usize) -> Drawn
-    requires { ⌜ at + recordSize ≤ length (now out) ⌝ }
-    ensures { λ r. ⌜ ((c : Command) → DrawsBy (openCommand opcode) pen c look at (now (out .entry)) r (now (out .exit))) ⌝ }
-{
-    let fresh = new_command(opcode, pen.point);
-    let row = row_of(opcode);
-    if row.kind == 9 {
-        let record = mark(look, 9, 0, opcode, pen.point);
-        return one_record(record, pen, fresh, look, out, at);
-    }
-    no_record(pen, fresh, look, at)
-}
+ghost use Rattle.figures.specs.Carried.{carryOut, drawingOf, carriedOf};
 
 // Closes the command that the row is of, and writes a record of the drawing point.
 fn close_and_mark(
@@ -62,7 +51,7 @@ fn close_and_mark(
         (drawingOf pen command look (now (map .entry))) at (now (out .entry)) ⌝ }
 {
     let done = close(row, pen, command, look, map, out, at);
-    if done.refused {
+    if done.too_many_vertices {
         return done;
     }
     let record = mark(done.look, kind, repertoire, code, done.pen.point);
@@ -87,10 +76,21 @@ fn close_and_open(
         (now (out .entry)) ⌝ }
 {
     let done = close(row, pen, command, look, map, out, at);
-    if done.refused {
+    if done.too_many_vertices {
         return done;
     }
-    open_command(opcode, done.pen, done.look, out, done.at)
+    let ink = head_of(done.look, 0, 0, 0, 0);
+    let opened = open_at(
+        opcode,
+        row_of(opcode),
+        done.pen.point,
+        ink,
+        done.look.domain.pel,
+        out,
+        done.at,
+    );
+    let pen = moved(done.pen, opened.point);
+    no_record(pen, opened.command, done.look, opened.at)
 }
 
 // What an action draws, of a state in range; the output has room for three records.

@@ -82,7 +82,7 @@ pub(crate) fn apply_begun(
 {
     let role = role_due(row, command);
     let done = apply(role, row, pen, command, look, map, out, at);
-    if done.refused {
+    if done.too_many_vertices {
         return done;
     }
     next_operand(row, done.pen, done.command, done.look, done.at)
@@ -134,9 +134,9 @@ pub(crate) fn data_byte(
         return no_record(longer, command, look, at);
     }
     let done = apply_begun(row, longer, command, look, map, out, at);
-    if done.refused {
+    if done.too_many_vertices {
         return Drawn {
-            refused: true,
+            too_many_vertices: true,
             at,
             pen,
             command,

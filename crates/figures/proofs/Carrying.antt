@@ -13,7 +13,7 @@ use Rattle.rules.specs.Drawing.{Outcome, NotDrawn, Draw, prepend, andThen}
 use Rattle.rules.proofs.RecordCount.{record-length, records-length, records-append, AtMost}
 use Rattle.records.specs.Bytes.{overwrite}
 use Rattle.records.proofs.Writes.{overwrite-none, overwrite-length, overwrite-next}
-use Rattle.figures.specs.Carried.{Carried, carry}
+use Rattle.figures.specs.Carried.{Carried, carry, Puts}
 
 -- No record: the place and the output are left
 pub carry-none : (e d : Drawing) (at : ℕ) (out : List ℕ) → carry (Draw e []) d at out ≡ record { refused = false; drawing = e; at = at; output = out }
@@ -24,6 +24,22 @@ carry-none e d at out = rw (add-zero, overwrite-none)
 pub carry-one : (r : Record) (e d : Drawing) (at : ℕ) (out : List ℕ) → carry (Draw e (r ∷ [])) d at out ≡ record { refused = false; drawing = e; at = at + 40; output = overwrite at (bytesOf r) out }
 unfolding carry bytesOfAll
 carry-one r e d at out = rw (append-nil, record-length)
+
+-- No record written, and one
+pub puts-none : (at : ℕ) (out : List ℕ) → Puts [] at out at out
+unfolding bytesOfAll
+puts-none at out = (sym (add-zero at), sym (overwrite-none out at))
+
+pub puts-one : (r : Record) (at : ℕ) (out out′ : List ℕ) → out′ ≡ overwrite at (bytesOf r) out → Puts (r ∷ []) at out (at + 40) out′
+unfolding bytesOfAll
+puts-one r at out out′ w = rw (append-nil (bytesOf r), record-length r) (refl, w)
+
+-- Records written are carried out
+pub puts-carried : {o : Outcome} {rs : List Record} (d e : Drawing) (at at′ : ℕ) (out out′ : List ℕ) → o ≡ Draw e rs → Puts rs at out at′ out′
+    → record { refused = false; drawing = e; at = at′; output = out′ } ≡ carry o d at out
+unfolding carry
+puts-carried d e at at′ out out′ h w =
+    (λ i. record { refused = false; drawing = e; at = w .0 i; output = w .1 i }) ∙ ap (λ (x : Outcome). carry x d at out) (sym h)
 
 -- Where a rule draws what was carried out, that is what the rule carries out
 pub drawn-by : {x : Carried} {e : Drawing} {rs : List Record} {o : Outcome} (d : Drawing) (at : ℕ) (out : List ℕ) → x ≡ carry (Draw e rs) e at out → o ≡ Draw e rs → x ≡ carry o d at out

@@ -9,6 +9,7 @@ use Rattle.rules.specs.declared.Pen.{Pen}
 use Rattle.rules.specs.declared.Command.{Command}
 use Rattle.rules.specs.declared.Look.{Look}
 use Rattle.rules.specs.declared.Drawing.{Drawing}
+use Rattle.rules.specs.declared.Record.{Record}
 use Rattle.rules.specs.Record.{bytesOfAll}
 use Rattle.rules.specs.Drawing.{Outcome, NotDrawn, Draw}
 use Rattle.records.specs.Bytes.{overwrite}
@@ -31,6 +32,10 @@ carry (Draw e rs) d at out =
       output = overwrite at (bytesOfAll rs) out;
     }
 
+-- Records are written at a place: the place after them, and the output
+abbrev pub Puts : List Record → ℕ → List ℕ → ℕ → List ℕ → Type 0
+Puts rs at out at′ out′ = (at′ ≡ at + length (bytesOfAll rs)) × (out′ ≡ overwrite at (bytesOfAll rs) out)
+
 -- The drawing point elsewhere
 abbrev pub movedTo : Point → Pen → Pen
 movedTo q p = record { point = q; operand = p .operand }
@@ -42,7 +47,7 @@ drawingOf p c l m = record { pen = p; command = c; look = l; map = m }
 -- What a function answers, with the map and the output it leaves
 abbrev pub carriedOf : Drawn → List ℕ → List ℕ → Carried
 carriedOf r m out =
-    record { refused = r .refused; drawing = drawingOf (r .pen) (r .command) (r .look) m; at = r .at; output = out }
+    record { refused = r .«too_many_vertices»; drawing = drawingOf (r .pen) (r .command) (r .look) m; at = r .at; output = out }
 
 -- What a rule does to a drawing state, carried out
 abbrev pub carryOut : (Drawing → Outcome) → Drawing → ℕ → List ℕ → Carried

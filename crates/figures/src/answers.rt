@@ -16,7 +16,7 @@ ghost use Rattle.rules.specs.Drawing.{Draw};
 ghost use Rattle.figures.specs.Carried.{movedTo, DrawsBy, ChangesBy};
 
 // The drawing point elsewhere, a begun operand kept.
-pub(crate) fn moved(pen: Pen, point: Point) -> Pen
+pub fn moved(pen: Pen, point: Point) -> Pen
     ensures { λ r. ⌜ r ≡ movedTo point pen ⌝ }
 {
     let operand = pen.operand;
@@ -27,7 +27,7 @@ pub fn no_record(pen: Pen, command: Command, look: Look, at: usize) -> Drawn
     ensures { λ r. ⌜ ChangesBy (λ d. Draw d []) pen command look at r ⌝ }
 {
     Drawn {
-        refused: false,
+        too_many_vertices: false,
         at,
         pen,
         command,
@@ -48,7 +48,7 @@ pub fn one_record(
 {
     put_record(out, at, written);
     Drawn {
-        refused: false,
+        too_many_vertices: false,
         at: at + RECORD_SIZE,
         pen,
         command,

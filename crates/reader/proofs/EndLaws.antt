@@ -36,7 +36,7 @@ use Rattle.reader.specs.Ending.{endingOf, sessionWith}
 
 -- From the answer of closing: refused, the session is stopped with 9 and the output left; else the session is ended
 pub stopped-so : (o : Outcome) (s : Session) (st out left m : List ℕ) (x : Drawn) (r : End) → OnlyVertices o
-    → carriedOf x m left ≡ carry o (s .drawing) 0 out → x .refused ≡ true
+    → carriedOf x m left ≡ carry o (s .drawing) 0 out → x .«too_many_vertices» ≡ true
     → r ≡ record { answer = Refused TooManyVertices; written = 0; session = sessionWith (Stopped TooManyVertices) (s .drawing) s }
     → endingOf r st left ≡ handed (ended o (stateLent s st)) out
 unfolding carry ended
@@ -47,7 +47,7 @@ stopped-so (NotDrawn q) s st out left m x r v e f h =
 stopped-so (Draw d rs) s st out left m x r v e f h = false-true (sym (ap (λ (z : Carried). z .refused) e) ∙ f)
 
 pub ended-so : (o : Outcome) (s : Session) (st out left m : List ℕ) (x : Drawn) (z : Session)
-    → carriedOf x m left ≡ carry o (s .drawing) 0 out → x .refused ≡ false
+    → carriedOf x m left ≡ carry o (s .drawing) 0 out → x .«too_many_vertices» ≡ false
     → z ≡ sessionWith Ended (drawingOf (x .pen) (x .command) (x .look) m) s
     → endingOf (record { answer = Done; written = x .at; session = z }) st left ≡ handed (ended o (stateLent s st)) out
 unfolding carry ended

@@ -112,7 +112,7 @@ fn close_command(session: Session, out: &mut [u8]) -> Ended
     let look = drawing.look;
     let mut map = drawing.map;
     let drawn = act(Action::Close, pen, command, look, &mut map, out, 0);
-    if drawn.refused {
+    if drawn.too_many_vertices {
         return stop(session, Refusal::TooManyVertices);
     }
     let pen = drawn.pen;

@@ -114,15 +114,15 @@ module _ (s : Session) (st₀ piece out₀ : List ℕ) (valid : Valid (stateLent
 
       -- The turn's action drawn
       module _ (a : Action) (g : r .course ≡ Draws a) (u : DrawDue p r) (m : Drawn) (map₁ out₁ : List ℕ) (f : carriedOf m map₁ out₁ ≡ carry (act a d) d (p .written) out)
-          (cells₂ places₂ : List ℕ) (h : bodiesOf (p .depth) cells₂ places₂ ≡ readOnIf (m .refused) (p .depth) (r .cursor) (bodiesOf (p .depth) cells₁ places₁)) where
+          (cells₂ places₂ : List ℕ) (h : bodiesOf (p .depth) cells₂ places₂ ≡ readOnIf (m .«too_many_vertices») (p .depth) (r .cursor) (bodiesOf (p .depth) cells₁ places₁)) where
         due : DrawDueBy (Draws a) p (r .progress)
         due = drawn-due r p a g u
 
         -- The step keeps the depth
-        read : bodiesOf (r .progress .depth) cells₂ places₂ ≡ readOnIf (m .refused) (r .progress .depth) (r .cursor) (bodiesOf (r .progress .depth) cells₁ places₁)
+        read : bodiesOf (r .progress .depth) cells₂ places₂ ≡ readOnIf (m .«too_many_vertices») (r .progress .depth) (r .cursor) (bodiesOf (r .progress .depth) cells₁ places₁)
         read = rw (ap (λ (z : Progress). z .depth) (due .0)) h
 
-        pub loop-draws : m .refused ≡ false → (x : Reached) → x ≡ drawnTo m (r .progress)
+        pub loop-draws : m .«too_many_vertices» ≡ false → (x : Reached) → x ≡ drawnTo m (r .progress)
             → (Kept first piece out₀ (stateAt (s .budget) (x .progress) cells₂ places₂ firsts₁ (drawingOf (x .pen) (x .command) (x .look) map₁) st₁) (x .progress .at) (x .progress .written) out₁)
             × (x .progress .steps ≡ 1 + p .steps)
             × (p .steps < s .budget)
@@ -131,7 +131,7 @@ module _ (s : Session) (st₀ piece out₀ : List ℕ) (valid : Valid (stateLent
             (next (record { course = GoesOn; state = stateAt (s .budget) (writtenTo (m .at) (r .progress)) cells₂ places₂ firsts₁ (drawingOf (m .pen) (m .command) (m .look) map₁) st₁; consumed = r .progress .at; written = m .at; output = out₁ })
             (rw g (draw-goes (s .budget) p (r .progress) (due .0) cells₁ places₁ firsts₁ d st₁ out (r .cursor) a m map₁ out₁ f cells₂ places₂ read n)))
 
-        pub loop-refused : m .refused ≡ true → (pen : Pen) (command : Command) (look : Look) (map : List ℕ) → d ≡ drawingOf pen command look map
+        pub loop-refused : m .«too_many_vertices» ≡ true → (pen : Pen) (command : Command) (look : Look) (map : List ℕ) → d ≡ drawingOf pen command look map
             → (x : Fed) → x ≡ fedOf (Refused TooManyVertices) p (sessionAfter (Refused TooManyVertices) (s .budget) p cells₂ places₂ firsts₁ (drawingOf pen command look map₁))
             → handedOf x st₁ out₁ ≡ handed (reading (Room (length out₀)) (s .budget - s .steps) (stateLent s st₀) piece) out₀
         loop-refused n pen command look map k x y =

@@ -95,7 +95,7 @@ pub fn read(session: Session, store: &mut [u8], piece: &[u8], out: &mut [u8]) ->
                     &mut map,
                     out,
                 );
-                if drawn.refused {
+                if drawn.too_many_vertices {
                     let answer = Answer::Refused(Refusal::TooManyVertices);
                     return finish(answer, budget, reached, cells, places, firsts, map);
                 }

@@ -161,14 +161,14 @@ draws-due a p s u n q h e = (rw (e, h .after), h .depth)
 module _ (budget : ℕ) (p q : Progress) (e : q ≡ stepsTo (consumedBy (sourceAt (p .depth)) (p .at)) (p .depth) (q .sets) (q .waiting) p)
     (cells places firsts : List ℕ) (d : Drawing) (st out : List ℕ) (x : Cursor) (a : Action)
     (r : Drawn) (map₁ out₁ : List ℕ) (f : carriedOf r map₁ out₁ ≡ carry (act a d) d (p .written) out)
-    (cells₁ places₁ : List ℕ) (g : bodiesOf (q .depth) cells₁ places₁ ≡ readOnIf (r .refused) (q .depth) x (bodiesOf (q .depth) cells places)) where
+    (cells₁ places₁ : List ℕ) (g : bodiesOf (q .depth) cells₁ places₁ ≡ readOnIf (r .«too_many_vertices») (q .depth) x (bodiesOf (q .depth) cells places)) where
   abbrev drawn : Left
   drawn = leftBy (Draws a) budget p q x cells places firsts d st out
 
   abbrev after·draw : Drawing
   after·draw = drawingOf (r .pen) (r .command) (r .look) map₁
 
-  pub draw-refused : (pen : Pen) (command : Command) (look : Look) (map : List ℕ) → d ≡ drawingOf pen command look map → r .refused ≡ true
+  pub draw-refused : (pen : Pen) (command : Command) (look : Look) (map : List ℕ) → d ≡ drawingOf pen command look map → r .«too_many_vertices» ≡ true
       → record { course = Ends·course (Refused TooManyVertices); state = answered (Refused TooManyVertices) (stateAt budget p cells₁ places₁ firsts (drawingOf pen command look map₁) st); consumed = p .at; written = p .written; output = out₁ } ≡ drawn
   unfolding carry onOutcome onMove leaves
   draw-refused pen command look map k n = by (act a d) f (act-vertices a d)
@@ -182,7 +182,7 @@ module _ (budget : ℕ) (p q : Progress) (e : q ≡ stepsTo (consumedBy (sourceA
       by (NotDrawn m) h v = rw (v, same, ap (λ (z : Carried). z .drawing .map) h, ap (λ (z : Carried). z .output) h, k)
       by (Draw c rs) h v = false-true (sym (ap (λ (z : Carried). z .refused) h) ∙ n)
 
-  pub draw-goes : r .refused ≡ false
+  pub draw-goes : r .«too_many_vertices» ≡ false
       → record { course = GoesOn; state = stateAt budget (writtenTo (r .at) q) cells₁ places₁ firsts after·draw st; consumed = q .at; written = r .at; output = out₁ } ≡ drawn
   unfolding carry onOutcome onMove leaves
   draw-goes n = by (act a d) f

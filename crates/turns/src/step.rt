@@ -244,7 +244,7 @@ pub fn draw(
         ≡ carryOut (act action) (drawingOf (reached .pen) (reached .command) (reached .look) (now (map .entry)))
         (reached .progress .written) (now (out .entry)) ⌝ }
     ensures bodies { λ r. ⌜ bodiesOf (reached .progress .depth) (now (cells .exit)) (now (places .exit))
-        ≡ readOnIf (r .refused) (reached .progress .depth) cursor
+        ≡ readOnIf (r .«too_many_vertices») (reached .progress .depth) cursor
         (bodiesOf (reached .progress .depth) (now (cells .entry)) (now (places .entry))) ⌝ }
 {
     let progress = reached.progress;
@@ -258,7 +258,7 @@ pub fn draw(
         out,
         at,
     );
-    if drawn.refused {
+    if drawn.too_many_vertices {
         return drawn;
     }
     read_on(cells, places, progress.depth, cursor);

@@ -10,9 +10,6 @@ returns c = λ e. false-true e
 returns-2 : tie.Need-returns-2
 returns-2 c = λ e. false-true e
 
-enum-told : tie.Need-enum-told
-enum-told c = search needs
-
 returns-3 : tie.Need-returns-3
 returns-3 c =
     let enum-told· = c .enum-told in
@@ -25,4 +22,4 @@ returns-4 c = λ e. false-true e
 
 pub drops-spec : {M : Type 1} → statement M
 drops-spec =
-    tie.close (tie.spec returns returns-2 enum-told returns-3 returns-4)
+    tie.close (tie.spec returns returns-2 (λ c. search needs) returns-3 returns-4)

@@ -6,14 +6,8 @@ use borrow.Author.Needs.{needs}
 use Rattle.commands.proofs.opens.Statement.{statement}
 use Rattle.commands.proofs.opens.Tie as tie
 
-is-foreground-requires : tie.Need-is-foreground-requires
-is-foreground-requires c κs = search needs
-
 returns : tie.Need-returns
 returns c = λ h. false-true h
-
-is-recorded-requires : tie.Need-is-recorded-requires
-is-recorded-requires c κs = search needs
 
 returns-2 : tie.Need-returns-2
 returns-2 c =
@@ -33,8 +27,8 @@ pub opens-spec : {M : Type 1} → statement M
 opens-spec =
     tie.close
     (tie.spec
-    is-foreground-requires
+    (λ c κs. search needs)
     returns
-    is-recorded-requires
+    (λ c κs. search needs)
     returns-2
     returns-3)

@@ -5,16 +5,10 @@ use Rattle.commands.proofs.CommandLaws.{after-some}
 use Rattle.commands.proofs.pen_after.Statement.{statement}
 use Rattle.commands.proofs.pen_after.Tie as tie
 
-returns : tie.Need-returns
-returns c = search needs
-
-resting-requires : tie.Need-resting-requires
-resting-requires c κs = search needs
-
 returns-2 : tie.Need-returns-2
 returns-2 c =
     let s = c .before .before .args in
     c .resting .ensures ∙ after-some (s .pen) (s .count) (s .point) (omega arith)
 
 pub pen-after-spec : {M : Type 1} → statement M
-pen-after-spec = tie.close (tie.spec returns resting-requires returns-2)
+pen-after-spec = tie.close (tie.spec (λ c. search needs) (λ c κs. search needs) returns-2)

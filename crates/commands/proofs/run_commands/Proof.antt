@@ -10,7 +10,7 @@ use Rattle.rules.specs.declared.Look.{Look}
 use Rattle.rules.specs.Drawing.{rowOf}
 use Rattle.runs.specs.Run.{standing}
 use Rattle.runs.specs.Strokes.{penAfter}
-use Rattle.commands.specs.Tracing.{Inks}
+use Rattle.figures.specs.Tracing.{Inks}
 use Rattle.commands.proofs.CommandLaws.{after-own, after-moved, Reaches, reaches-none, reaches-opened, reaches-dropped, reaches-end, row-next, multi-range}
 use Rattle.commands.proofs.PointLaws.{reaches-point}
 use Rattle.commands.proofs.run_commands.Statement.{statement}
@@ -25,18 +25,6 @@ Inv-loop pen bytes from to out₀ at ink domain pel n table row₀ place₀ at�
 
 abbrev μ-loop : tie.MeasureT-loop
 μ-loop pen bytes from to out₀ at ink domain pel n table row₀ place₀ at₀ point₀ command₀ out row place at′ point command = to - place
-
-head-of-requires : tie.Need-head-of-requires Inv-loop μ-loop
-head-of-requires c κs = search needs
-
-cast-n : tie.Need-cast-n Inv-loop μ-loop
-cast-n c = search needs
-
-rows-requires : tie.Need-rows-requires Inv-loop μ-loop
-rows-requires c κs = search needs
-
-row-of-requires : tie.Need-row-of-requires Inv-loop μ-loop
-row-of-requires c κs = search needs
 
 loop-holds : tie.Need-loop-holds Inv-loop μ-loop
 loop-holds c =
@@ -58,9 +46,6 @@ sub-after c =
     let loop· = c .before .before .loop in
     loop· .inv .1
 
-after-requires : tie.Need-after-requires Inv-loop μ-loop
-after-requires c κs = search needs
-
 same-length : tie.Need-same-length Inv-loop μ-loop
 same-length c =
     let loop· = c .before .before .before .loop in
@@ -75,25 +60,16 @@ returns c =
     let k : Inks _ _ (args· .look) = record { head = head-of· .ensures; size = refl } in
     reaches-end _ _ _ _ _ _ _ _ _ _ (args· .look) _ _ _ (loop· .inv .1) (loop· .inv .2) (after· .ensures) (λ m. loop· .inv .7 (args· .look) m k refl refl)
 
-role-due-requires : tie.Need-role-due-requires Inv-loop μ-loop
-role-due-requires c κs = search needs
-
 shared-slice-read-byte : tie.Need-shared-slice-read-byte Inv-loop μ-loop
 shared-slice-read-byte c =
     let loop-test· = c .before .before .before .loop-test in
     let pre· = c .before .before .before .before .before .before .before .before .before .before .before .before .before .before .pre in
     omega (arith, loop-test· .taken, pre· .4)
 
-opens-requires : tie.Need-opens-requires Inv-loop μ-loop
-opens-requires c κs = search needs
-
 sub-after-2 : tie.Need-sub-after-2 Inv-loop μ-loop
 sub-after-2 c =
     let loop· = c .before .before .before .before .before .before .before .loop in
     loop· .inv .1
-
-after-requires-2 : tie.Need-after-requires-2 Inv-loop μ-loop
-after-requires-2 c κs = search needs
 
 same-length-2 : tie.Need-same-length-2 Inv-loop μ-loop
 same-length-2 c =
@@ -108,12 +84,6 @@ returns-2 c =
     let after2· = c .after2 in
     let k : Inks _ _ (args· .look) = record { head = head-of· .ensures; size = refl } in
     reaches-end _ _ _ _ _ _ _ _ _ _ (args· .look) _ _ _ (loop· .inv .1) (loop· .inv .2) (after2· .ensures) (λ m. loop· .inv .7 (args· .look) m k refl refl)
-
-row-place-requires : tie.Need-row-place-requires Inv-loop μ-loop
-row-place-requires c κs = search needs
-
-mul-next : tie.Need-mul-next Inv-loop μ-loop
-mul-next c = search needs
 
 array-copy-out-next : tie.Need-array-copy-out-next Inv-loop μ-loop
 array-copy-out-next c =
@@ -136,61 +106,58 @@ open-next-requires c κs =
 
 add-place : tie.Need-add-place Inv-loop μ-loop
 add-place c =
-    let loop-test· = c .before .before .before .before .before .before .before .before .before .before .before .before .before .before .before .loop-test in
-    let fits· = c .before .before .before .before .before .before .before .before .before .before .before .before .before .before .before .before .before .before .before .before .before .before .before .before .before .before .fits in
+    let loop-test· = c .before .before .before .before .before .before .before .before .before .before .before .before .before .before .loop-test in
+    let fits· = c .before .before .before .before .before .before .before .before .before .before .before .before .before .before .before .before .before .before .before .before .before .before .before .before .before .fits in
     omega (arith, loop-test· .taken, fits· .to)
 
 leaves-strokes-requires : tie.Need-leaves-strokes-requires Inv-loop μ-loop
 leaves-strokes-requires c κs =
-    let loop-test· = c .before .before .before .before .before .before .before .before .before .before .before .before .before .before .before .loop-test in
-    let pre· = c .before .before .before .before .before .before .before .before .before .before .before .before .before .before .before .before .before .before .before .before .before .before .before .before .before .before .pre in
+    let loop-test· = c .before .before .before .before .before .before .before .before .before .before .before .before .before .before .loop-test in
+    let pre· = c .before .before .before .before .before .before .before .before .before .before .before .before .before .before .before .before .before .before .before .before .before .before .before .before .before .pre in
     (omega (arith, loop-test· .taken), pre· .4)
 
 sub-after-3 : tie.Need-sub-after-3 Inv-loop μ-loop
 sub-after-3 c =
-    let loop· = c .before .before .before .before .before .before .before .before .before .before .before .before .before .before .before .before .before .before .loop in
+    let loop· = c .before .before .before .before .before .before .before .before .before .before .before .before .before .before .before .before .before .loop in
     omega (arith, loop· .inv .1)
-
-after-requires-3 : tie.Need-after-requires-3 Inv-loop μ-loop
-after-requires-3 c κs = search needs
 
 same-length-3 : tie.Need-same-length-3 Inv-loop μ-loop
 same-length-3 c =
-    let open-next· = c .before .before .before .before .before .before .before .before .open-next in
-    let loop· = c .before .before .before .before .before .before .before .before .before .before .before .before .before .before .before .before .before .before .before .loop in
+    let open-next· = c .before .before .before .before .before .before .before .open-next in
+    let loop· = c .before .before .before .before .before .before .before .before .before .before .before .before .before .before .before .before .before .before .loop in
     open-next· .kept .1 .1 .1 .1 .1 .1 .1 .0 ∙ loop· .inv .3
 
 returns-3 : tie.Need-returns-3 Inv-loop μ-loop
 returns-3 c =
-    let args· = c .before .before .before .before .before .before .before .before .before .before .before .before .before .before .before .before .before .before .before .before .before .before .before .before .before .before .before .before .before .args in
-    let head-of· = c .before .before .before .before .before .before .before .before .before .before .before .before .before .before .before .before .before .before .before .before .before .before .before .before .before .before .head-of in
-    let opens· = c .before .before .before .before .before .before .before .before .before .before .before .before .before .opens in
-    let if3· = c .before .before .before .before .before .before .before .before .before .before .before .before .if3 in
-    let loop· = c .before .before .before .before .before .before .before .before .before .before .before .before .before .before .before .before .before .before .before .loop in
-    let loop-test· = c .before .before .before .before .before .before .before .before .before .before .before .before .before .before .before .before .before .before .loop-test in
+    let args· = c .before .before .before .before .before .before .before .before .before .before .before .before .before .before .before .before .before .before .before .before .before .before .before .before .before .before .before .before .args in
+    let head-of· = c .before .before .before .before .before .before .before .before .before .before .before .before .before .before .before .before .before .before .before .before .before .before .before .before .before .head-of in
+    let opens· = c .before .before .before .before .before .before .before .before .before .before .before .before .opens in
+    let if3· = c .before .before .before .before .before .before .before .before .before .before .before .if3 in
+    let loop· = c .before .before .before .before .before .before .before .before .before .before .before .before .before .before .before .before .before .before .loop in
+    let loop-test· = c .before .before .before .before .before .before .before .before .before .before .before .before .before .before .before .before .before .loop-test in
     let after3· = c .after3 in
-    let pre· = c .before .before .before .before .before .before .before .before .before .before .before .before .before .before .before .before .before .before .before .before .before .before .before .before .before .before .before .before .before .pre in
-    let if1· = c .before .before .before .before .before .before .before .before .before .before .before .before .before .before .before .before .before .if1 in
-    let open-next· = c .before .before .before .before .before .before .before .before .open-next in
+    let pre· = c .before .before .before .before .before .before .before .before .before .before .before .before .before .before .before .before .before .before .before .before .before .before .before .before .before .before .before .before .pre in
+    let if1· = c .before .before .before .before .before .before .before .before .before .before .before .before .before .before .before .before .if1 in
+    let open-next· = c .before .before .before .before .before .before .before .open-next in
     let k : Inks _ _ (args· .look) = record { head = head-of· .ensures; size = refl } in
     let w = opens· .ensures (not-false (opens· .result) (if3· .left)) in
     reaches-end _ _ _ _ _ _ _ _ _ _ (args· .look) _ _ _ (omega (arith, loop· .inv .1)) (omega (arith, loop-test· .taken)) (after3· .ensures) (λ m. reaches-opened _ _ _ _ _ _ _ (args· .look) m _ _ _ _ _ _ _ (loop· .inv .1) (pre· .0) (loop· .inv .6) (omega (arith, if1· .left, loop· .inv .4)) (w .1) (λ o z. open-next· .ensures .0 (args· .look) o m k z) (loop· .inv .7 (args· .look) m k refl refl))
 
 loop-less : tie.Need-loop-less Inv-loop μ-loop
 loop-less c =
-    let loop-test· = c .before .before .before .before .before .before .before .before .before .before .before .before .before .before .before .before .before .loop-test in
+    let loop-test· = c .before .before .before .before .before .before .before .before .before .before .before .before .before .before .before .before .loop-test in
     omega (arith, loop-test· .taken)
 
 loop-again : tie.Need-loop-again Inv-loop μ-loop
 loop-again c =
-    let opens· = c .before .before .before .before .before .before .before .before .before .before .before .before .opens in
-    let if3· = c .before .before .before .before .before .before .before .before .before .before .before .if3 in
-    let open-next· = c .before .before .before .before .before .before .before .open-next in
-    let loop· = c .before .before .before .before .before .before .before .before .before .before .before .before .before .before .before .before .before .before .loop in
-    let loop-test· = c .before .before .before .before .before .before .before .before .before .before .before .before .before .before .before .before .before .loop-test in
-    let if1· = c .before .before .before .before .before .before .before .before .before .before .before .before .before .before .before .before .if1 in
-    let args· = c .before .before .before .before .before .before .before .before .before .before .before .before .before .before .before .before .before .before .before .before .before .before .before .before .before .before .before .before .args in
-    let pre· = c .before .before .before .before .before .before .before .before .before .before .before .before .before .before .before .before .before .before .before .before .before .before .before .before .before .before .before .before .pre in
+    let opens· = c .before .before .before .before .before .before .before .before .before .before .before .opens in
+    let if3· = c .before .before .before .before .before .before .before .before .before .before .if3 in
+    let open-next· = c .before .before .before .before .before .before .open-next in
+    let loop· = c .before .before .before .before .before .before .before .before .before .before .before .before .before .before .before .before .before .loop in
+    let loop-test· = c .before .before .before .before .before .before .before .before .before .before .before .before .before .before .before .before .loop-test in
+    let if1· = c .before .before .before .before .before .before .before .before .before .before .before .before .before .before .before .if1 in
+    let args· = c .before .before .before .before .before .before .before .before .before .before .before .before .before .before .before .before .before .before .before .before .before .before .before .before .before .before .before .args in
+    let pre· = c .before .before .before .before .before .before .before .before .before .before .before .before .before .before .before .before .before .before .before .before .before .before .before .before .before .before .before .pre in
     let w = opens· .ensures (not-false (opens· .result) (if3· .left)) in (
       open-next· .ensures .1,
       omega (arith, loop· .inv .1),
@@ -209,24 +176,15 @@ point-due-requires c κs =
     let loop· = c .before .before .before .before .before .loop in
     (multi-range (args· .look .domain) (pre· .1) .1, loop· .inv .2, pre· .4)
 
-enum-told : tie.Need-enum-told Inv-loop μ-loop
-enum-told c = search needs
-
 sub-drops : tie.Need-sub-drops Inv-loop μ-loop
 sub-drops c =
     let loop· = c .before .before .before .before .before .before .before .before .loop in
     loop· .inv .1
 
-drops-requires : tie.Need-drops-requires Inv-loop μ-loop
-drops-requires c κs = search needs
-
 sub-after-4 : tie.Need-sub-after-4 Inv-loop μ-loop
 sub-after-4 c =
     let loop· = c .before .before .before .before .before .before .before .before .before .before .loop in
     loop· .inv .1
-
-after-requires-4 : tie.Need-after-requires-4 Inv-loop μ-loop
-after-requires-4 c κs = search needs
 
 same-length-4 : tie.Need-same-length-4 Inv-loop μ-loop
 same-length-4 c =
@@ -274,68 +232,64 @@ loop-again-2 c =
       λ l m k h t. reaches-dropped _ _ _ _ _ _ _ l m _ _ _ (w .2) (omega (arith, if1· .left, loop· .inv .4)) (omega (arith, if2· .left)) (w .1) (loop· .inv .0) (sym (role-due· .ensures) ∙ w .0) (loop· .inv .7 l m k h t),
     )
 
-enum-known-whole : tie.Need-enum-known-whole Inv-loop μ-loop
-enum-known-whole c = search needs
-
 trace-requires : tie.Need-trace-requires Inv-loop μ-loop
 trace-requires c κs =
     let point-due· = c .before .before .before .before .point-due in
     let whole· = c .before .before .whole in
-    let if1· = c .before .before .before .before .before .before .before .before .if1 in
-    let loop· = c .before .before .before .before .before .before .before .before .before .before .loop in
-    let w = point-due· .ensures _ (whole· .given .1) in
-    (w .0, omega (arith, if1· .left, loop· .inv .4))
+    point-due· .ensures _ (whole· .given .1) .0
 
-with-due-requires : tie.Need-with-due-requires Inv-loop μ-loop
-with-due-requires c κs = search needs
+put-figure-requires : tie.Need-put-figure-requires Inv-loop μ-loop
+put-figure-requires c κs =
+    let if1· = c .before .before .before .before .before .before .before .before .before .before .if1 in
+    let loop· = c .before .before .before .before .before .before .before .before .before .before .before .before .loop in
+    omega (arith, if1· .left, loop· .inv .4)
 
 add-place-3 : tie.Need-add-place-3 Inv-loop μ-loop
 add-place-3 c =
-    let point-due· = c .before .before .before .before .before .before .before .before .before .point-due in
-    let whole· = c .before .before .before .before .before .before .before .whole in
-    let fits· = c .before .before .before .before .before .before .before .before .before .before .before .before .before .before .before .before .before .before .before .before .before .before .before .before .before .fits in
+    let point-due· = c .before .before .before .before .before .before .before .before .before .before .before .point-due in
+    let whole· = c .before .before .before .before .before .before .before .before .before .whole in
+    let fits· = c .before .before .before .before .before .before .before .before .before .before .before .before .before .before .before .before .before .before .before .before .before .before .before .before .before .before .before .fits in
     let w = point-due· .ensures _ (whole· .given .1) in
     omega (arith, w .1, fits· .to)
 
 loop-less-3 : tie.Need-loop-less-3 Inv-loop μ-loop
 loop-less-3 c =
-    let point-due· = c .before .before .before .before .before .before .before .before .before .point-due in
-    let whole· = c .before .before .before .before .before .before .before .whole in
-    let args· = c .before .before .before .before .before .before .before .before .before .before .before .before .before .before .before .before .before .before .before .before .before .before .before .before .before .args in
-    let pre· = c .before .before .before .before .before .before .before .before .before .before .before .before .before .before .before .before .before .before .before .before .before .before .before .before .before .pre in
+    let point-due· = c .before .before .before .before .before .before .before .before .before .before .before .point-due in
+    let whole· = c .before .before .before .before .before .before .before .before .before .whole in
+    let args· = c .before .before .before .before .before .before .before .before .before .before .before .before .before .before .before .before .before .before .before .before .before .before .before .before .before .before .before .args in
+    let pre· = c .before .before .before .before .before .before .before .before .before .before .before .before .before .before .before .before .before .before .before .before .before .before .before .before .before .before .before .pre in
     let w = point-due· .ensures _ (whole· .given .1) in
     omega (arith, w .1, multi-range (args· .look .domain) (pre· .1) .0)
 
 loop-again-3 : tie.Need-loop-again-3 Inv-loop μ-loop
 loop-again-3 c =
-    let args· = c .before .before .before .before .before .before .before .before .before .before .before .before .before .before .before .before .before .before .before .before .before .before .before .before .before .args in
-    let pre· = c .before .before .before .before .before .before .before .before .before .before .before .before .before .before .before .before .before .before .before .before .before .before .before .before .before .pre in
-    let point-due· = c .before .before .before .before .before .before .before .before .before .point-due in
-    let whole· = c .before .before .before .before .before .before .before .whole in
-    let loop· = c .before .before .before .before .before .before .before .before .before .before .before .before .before .before .before .loop in
+    let args· = c .before .before .before .before .before .before .before .before .before .before .before .before .before .before .before .before .before .before .before .before .before .before .before .before .before .before .before .args in
+    let pre· = c .before .before .before .before .before .before .before .before .before .before .before .before .before .before .before .before .before .before .before .before .before .before .before .before .before .before .before .pre in
+    let point-due· = c .before .before .before .before .before .before .before .before .before .before .before .point-due in
+    let whole· = c .before .before .before .before .before .before .before .before .before .whole in
+    let loop· = c .before .before .before .before .before .before .before .before .before .before .before .before .before .before .before .before .before .loop in
     let with-due· = c .with-due in
-    let trace· = c .before .before .before .before .trace in
-    let if1· = c .before .before .before .before .before .before .before .before .before .before .before .before .before .if1 in
-    let role-due· = c .before .before .before .before .before .before .before .before .before .before .before .before .role-due in
+    let trace· = c .before .before .before .before .before .before .trace in
+    let put-figure· = c .before .before .before .before .put-figure in
+    let if1· = c .before .before .before .before .before .before .before .before .before .before .before .before .before .before .before .if1 in
+    let role-due· = c .before .before .before .before .before .before .before .before .before .before .before .before .before .before .role-due in
+    let target· = c .before .before .before .before .before .before .before .target in
     let r = multi-range (args· .look .domain) (pre· .1) in
     let w = point-due· .ensures _ (whole· .given .1) in (
-      loop· .inv .0 ∙ ap rowOf (sym (ap (λ (x : Command). x .opcode) (with-due· .ensures) ∙ trace· .ensures .1 .1)),
+      loop· .inv .0 ∙ ap rowOf (sym (ap (λ (x : Command). x .opcode) (with-due· .ensures) ∙ trace· .ensures .1)),
       omega (arith, loop· .inv .1),
       w .1,
-      trace· .kept .1 .1 .1 .1 .1 .1 .1 .0 ∙ loop· .inv .3,
-      omega (arith, if1· .left, loop· .inv .4, trace· .ensures .1 .0, trace· .kept .1 .1 .1 .1 .1 .1 .1 .0),
+      put-figure· .kept .1 .1 .1 .0 ∙ loop· .inv .3,
+      omega (arith, if1· .left, loop· .inv .4, put-figure· .ensures .1, put-figure· .kept .1 .1 .1 .0),
       loop· .inv .5,
       after-moved (args· .pen) (loop· .place + args· .look .domain .multi - args· .from) (trace· .result .point) (omega (arith, loop· .inv .1, r .0)),
-      λ l m k h t. reaches-point _ _ _ _ _ _ _ l m _ _ _ _ _ _ _ _ _ _ _ _ (loop· .inv .1) (pre· .0) (loop· .inv .5) (loop· .inv .6) (loop· .inv .0) (role-due· .ensures) (w .0) (omega (arith, if1· .left, loop· .inv .4)) h (r .0) (r .1) (omega (arith, w .1, pre· .4)) t (w .2) (λ bs a e. trace· .ensures .0 bs l a m k e) (with-due· .ensures) (loop· .inv .7 l m k h t),
+      λ l m k h t. reaches-point _ _ _ _ _ _ _ l m _ _ _ _ _ _ _ _ _ _ _ _ _ (loop· .inv .1) (pre· .0) (loop· .inv .5) (loop· .inv .6) (loop· .inv .0) (role-due· .ensures) (w .0) (omega (arith, if1· .left, loop· .inv .4)) h (r .0) (r .1) (omega (arith, w .1, pre· .4)) t (w .2) (λ bs a e. trace· .ensures .0 l _ bs (target· .ensures .0) (target· .ensures .1) e a m) (put-figure· .ensures .0 l k) (with-due· .ensures) (loop· .inv .7 l m k h t),
     )
 
 sub-after-5 : tie.Need-sub-after-5 Inv-loop μ-loop
 sub-after-5 c =
     let loop· = c .before .loop in
     loop· .inv .1
-
-after-requires-5 : tie.Need-after-requires-5 Inv-loop μ-loop
-after-requires-5 c κs = search needs
 
 same-length-5 : tie.Need-same-length-5 Inv-loop μ-loop
 same-length-5 c =
@@ -357,53 +311,55 @@ run-commands-spec =
     (tie.spec
     Inv-loop
     μ-loop
-    head-of-requires
-    cast-n
-    rows-requires
-    row-of-requires
+    (λ c κs. search needs)
+    (λ c. search needs)
+    (λ c κs. search needs)
+    (λ c κs. search needs)
     loop-holds
     sub-if1
     sub-after
-    after-requires
+    (λ c κs. search needs)
     same-length
     returns
-    role-due-requires
+    (λ c κs. search needs)
     shared-slice-read-byte
-    opens-requires
+    (λ c κs. search needs)
     sub-after-2
-    after-requires-2
+    (λ c κs. search needs)
     same-length-2
     returns-2
-    row-place-requires
-    mul-next
+    (λ c κs. search needs)
+    (λ c. search needs)
     array-copy-out-next
     open-next-requires
     add-place
     leaves-strokes-requires
     sub-after-3
-    after-requires-3
+    (λ c κs. search needs)
     same-length-3
     returns-3
     loop-less
     loop-again
     point-due-requires
-    enum-told
+    (λ c. search needs)
     sub-drops
-    drops-requires
+    (λ c κs. search needs)
     sub-after-4
-    after-requires-4
+    (λ c κs. search needs)
     same-length-4
     returns-4
     add-place-2
     loop-less-2
     loop-again-2
-    enum-known-whole
+    (λ c. search needs)
+    (λ c κs. search needs)
     trace-requires
-    with-due-requires
+    put-figure-requires
+    (λ c κs. search needs)
     add-place-3
     loop-less-3
     loop-again-3
     sub-after-5
-    after-requires-5
+    (λ c κs. search needs)
     same-length-5
     returns-5)

@@ -7,29 +7,17 @@ use borrow.Author.Needs.{needs}
 use Rattle.drawing.proofs.close_and_mark.Statement.{statement}
 use Rattle.drawing.proofs.close_and_mark.Tie as tie
 
-close-requires : tie.Need-close-requires
-close-requires c κs = search needs
-
-same-length : tie.Need-same-length
-same-length c = search needs
-
 returns : tie.Need-returns
 returns c =
     let close· = c .before .before .before .close in
     let if1· = c .if1 in
     then-refused _ _ _ _ _ _ (close· .ensures) (if1· .taken)
 
-mark-requires : tie.Need-mark-requires
-mark-requires c κs = search needs
-
 one-record-requires : tie.Need-one-record-requires
 one-record-requires c κs =
     let pre· = c .before .before .before .before .before .before .before .before .before .pre in
     let close· = c .before .before .before .before .before .close in
     omega (arith, pre·, close-place _ _ _ _ (close· .ensures))
-
-same-length-2 : tie.Need-same-length-2
-same-length-2 c = search needs
 
 returns-2 : tie.Need-returns-2
 returns-2 c =
@@ -44,10 +32,10 @@ pub close-and-mark-spec : {M : Type 1} → statement M
 close-and-mark-spec =
     tie.close
     (tie.spec
-    close-requires
-    same-length
+    (λ c κs. search needs)
+    (λ c. search needs)
     returns
-    mark-requires
+    (λ c κs. search needs)
     one-record-requires
-    same-length-2
+    (λ c. search needs)
     returns-2)

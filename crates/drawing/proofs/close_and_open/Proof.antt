@@ -1,16 +1,12 @@
 use native.Mathlib.Omega.{arith}
+use mathlib.Core.Path.{refl, _∙_}
 use Rattle.rules.specs.Drawing.{openCommand}
-use Rattle.figures.proofs.Carrying.{then-refused, then-drawn}
+use Rattle.figures.specs.Tracing.{Inks}
+use Rattle.figures.proofs.Carrying.{carry-none, then-refused, then-drawn}
 use Rattle.drawing.proofs.ClosingLaws.{close-place}
 use borrow.Author.Needs.{needs}
 use Rattle.drawing.proofs.close_and_open.Statement.{statement}
 use Rattle.drawing.proofs.close_and_open.Tie as tie
-
-close-requires : tie.Need-close-requires
-close-requires c κs = search needs
-
-same-length : tie.Need-same-length
-same-length c = search needs
 
 returns : tie.Need-returns
 returns c =
@@ -18,25 +14,44 @@ returns c =
     let if1· = c .if1 in
     then-refused _ _ _ _ _ _ (close· .ensures) (if1· .taken)
 
-open-command-requires : tie.Need-open-command-requires
-open-command-requires c κs =
-    let pre· = c .before .before .before .before .before .before .before .before .pre in
-    let close· = c .before .before .before .before .close in
-    omega (arith, pre·, close-place _ _ _ _ (close· .ensures))
+open-at-requires : tie.Need-open-at-requires
+open-at-requires c κs =
+    let row-of· = c .before .row-of in
+    let pre· = c .before .before .before .before .before .before .before .before .before .before .pre in
+    let close· = c .before .before .before .before .before .before .close in
+    (row-of· .ensures, omega (arith, pre·, close-place _ _ _ _ (close· .ensures)))
 
 same-length-2 : tie.Need-same-length-2
-same-length-2 c = search needs
+same-length-2 c =
+    let open-at· = c .before .before .before .before .open-at in
+    let close· = c .before .before .before .before .before .before .before .before .before .before .before .close in
+    open-at· .kept .1 .1 .1 .1 .1 .0 ∙ close· .kept .1 .1 .1 .1 .1 .0
 
 returns-2 : tie.Need-returns-2
 unfolding openCommand
 returns-2 c =
-    let close· = c .before .before .before .before .before .before .before .close in
-    let if1· = c .before .before .before .before .if1 in
-    let pre· = c .before .before .before .before .before .before .before .before .before .before .before .pre in
-    let open-command· = c .before .before .open-command in
-    then-drawn _ _ _ _ _ _ _ (close· .ensures) (if1· .left) (omega (arith, pre·)) tt (open-command· .ensures _ _)
+    let close· = c .before .before .before .before .before .before .before .before .before .before .before .close in
+    let head-of· = c .before .before .before .before .before .before .before .head-of in
+    let if1· = c .before .before .before .before .before .before .before .before .if1 in
+    let pre· = c .before .before .before .before .before .before .before .before .before .before .before .before .before .before .before .pre in
+    let no-record· = c .no-record in
+    let open-at· = c .before .before .before .before .open-at in
+    let moved· = c .before .moved in
+    let k : Inks _ _ (close· .result .look) = record { head = head-of· .ensures; size = refl } in
+    then-drawn _ _ _ _ _ _ _ (close· .ensures) (if1· .left) (omega (arith, pre·)) tt
+    (no-record· .ensures _ _ ∙ (carry-none _ _ _ _ ∙ rw (moved· .ensures) (open-at· .ensures .0 _ _ _ _ k)))
 
 pub close-and-open-spec : {M : Type 1} → statement M
 close-and-open-spec =
     tie.close
-    (tie.spec close-requires same-length returns open-command-requires same-length-2 returns-2)
+    (tie.spec
+    (λ c κs. search needs)
+    (λ c. search needs)
+    returns
+    (λ c κs. tt)
+    (λ c κs. tt)
+    open-at-requires
+    (λ c κs. tt)
+    (λ c κs. tt)
+    same-length-2
+    returns-2)

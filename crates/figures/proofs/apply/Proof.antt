@@ -1,7 +1,35 @@
 use Rattle.rules.specs.Drawing.{apply}
+use Rattle.figures.proofs.TraceLaws.{point-role}
 use borrow.Author.Needs.{needs}
 use Rattle.figures.proofs.apply.Statement.{statement}
 use Rattle.figures.proofs.apply.Tie as tie
+
+draw-point-requires : tie.Need-draw-point-requires
+draw-point-requires c κs =
+    let match· = c .before .match in
+    let pre· = c .before .before .before .before .before .before .pre in
+    (point-role _ (match· .keys7), pre· .2)
+
+returns-2 : tie.Need-returns-2
+unfolding apply
+returns-2 c =
+    let enum-told2· = c .before .enum-told2 in
+    let point-of· = c .before .before .before .point-of in
+    let set-pel· = c .set-pel in
+    rw (enum-told2· .given .1, ← point-of· .ensures) (set-pel· .ensures _ _)
+
+returns-5 : tie.Need-returns-5
+unfolding apply
+returns-5 c =
+    let enum-told5· = c .before .before .before .before .before .enum-told5 in
+    let set-shade· = c .before .before .set-shade in
+    rw (enum-told5· .given .1) (set-shade· .ensures)
+
+returns-7 : tie.Need-returns-7
+returns-7 c =
+    let draw-point· = c .before .before .draw-point in
+    let point-of· = c .before .before .before .before .before .point-of in
+    draw-point· .ensures _ (point-of· .ensures) _
 
 pub apply-spec : {M : Type 1} → statement M
 unfolding apply
@@ -12,20 +40,6 @@ apply-spec =
     (λ c. search needs)
     (λ c κs. tt)
     (λ c. search needs)
-    (λ c κs. search needs)
-    (λ c. search needs)
-    (λ c κs. search needs)
-    (λ c. search needs)
-    (λ c κs. tt)
-    (λ c. search needs)
-    (λ c κs. search needs)
-    (λ c. search needs)
-    (λ c κs. tt)
-    (λ c. search needs)
-    (λ c κs. search needs)
-    (λ c. search needs)
-    (λ c κs. tt)
-    (λ c. search needs)
     (λ c κs. tt)
     (λ c. search needs)
     (λ c κs. tt)
@@ -35,21 +49,13 @@ apply-spec =
     (λ c κs. search needs)
     (λ c. search needs)
     (λ c κs. tt)
-    (λ c. rw (c .before .enum-told .given .1, ← c .before .before .before .point-of .ensures) (c .move-to .ensures _ _))
+    draw-point-requires
+    (λ c. rw (c .before .enum-told .given .1) (c .set-lengths .ensures _ _))
+    returns-2
+    (λ c. rw (c .before .enum-told3 .given .1) (c .set-foreground .ensures _ _))
+    (λ c. rw (c .before .enum-told4 .given .1) (c .set-background .ensures _ _))
     (λ c. search needs)
-    (λ c. rw (c .before .before .before .before .enum-told2 .given .1, ← c .before .before .before .before .before .before .point-of .ensures) (c .before .before .draw-to .ensures _))
+    returns-5
+    (λ c. rw (c .before .enum-told6 .given .1) (c .no-record .ensures _ _))
     (λ c. search needs)
-    (λ c. rw (c .before .before .before .before .enum-told3 .given .1, ← c .before .before .before .before .before .before .point-of .ensures) (c .before .before .draw-by .ensures _))
-    (λ c. rw (c .before .enum-told4 .given .1, ← c .before .before .before .point-of .ensures) (c .arc-middle .ensures _ _))
-    (λ c. search needs)
-    (λ c. rw (c .before .before .before .before .enum-told5 .given .1, ← c .before .before .before .before .before .before .point-of .ensures) (c .before .before .arc-by .ensures _))
-    (λ c. rw (c .before .enum-told6 .given .1, ← c .before .before .before .point-of .ensures) (c .start-at .ensures _ _))
-    (λ c. search needs)
-    (λ c. rw (c .before .before .before .before .enum-told7 .given .1, ← c .before .before .before .before .before .before .point-of .ensures) (c .before .before .edge-by .ensures _))
-    (λ c. rw (c .before .enum-told8 .given .1) (c .set-lengths .ensures _ _))
-    (λ c. rw (c .before .enum-told9 .given .1, ← c .before .before .before .point-of .ensures) (c .set-pel .ensures _ _))
-    (λ c. rw (c .before .enum-told10 .given .1) (c .set-foreground .ensures _ _))
-    (λ c. rw (c .before .enum-told11 .given .1) (c .set-background .ensures _ _))
-    (λ c. search needs)
-    (λ c. rw (c .before .before .before .before .before .enum-told12 .given .1) (c .before .before .set-shade .ensures))
-    (λ c. rw (c .before .enum-told13 .given .1) (c .no-record .ensures _ _)))
+    returns-7)

@@ -5,17 +5,8 @@ use borrow.Author.Needs.{needs}
 use Rattle.commands.proofs.points.point_due.Statement.{statement}
 use Rattle.commands.proofs.points.point_due.Tie as tie
 
-sub-if1 : tie.Need-sub-if1
-sub-if1 c = search needs
-
 returns : tie.Need-returns
 returns c = λ v e. cut-whole e
-
-is-point-requires : tie.Need-is-point-requires
-is-point-requires c κs = search needs
-
-whole-point-requires : tie.Need-whole-point-requires
-whole-point-requires c κs = search needs
 
 returns-2 : tie.Need-returns-2
 returns-2 c =
@@ -32,4 +23,4 @@ returns-3 c = λ v e. cut-whole e
 pub point-due-spec : {M : Type 1} → statement M
 point-due-spec =
     tie.close
-    (tie.spec sub-if1 returns is-point-requires whole-point-requires returns-2 returns-3)
+    (tie.spec (λ c. search needs) returns (λ c κs. search needs) (λ c κs. search needs) returns-2 returns-3)

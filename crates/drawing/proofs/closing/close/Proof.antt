@@ -6,12 +6,6 @@ use borrow.Author.Needs.{needs}
 use Rattle.drawing.proofs.closing.close.Statement.{statement}
 use Rattle.drawing.proofs.closing.close.Tie as tie
 
-complete-requires : tie.Need-complete-requires
-complete-requires c κs = search needs
-
-same-length : tie.Need-same-length
-same-length c = search needs
-
 returns : tie.Need-returns
 returns c =
     let pre· = c .before .before .before .before .before .before .before .pre in
@@ -19,23 +13,11 @@ returns c =
     let if1· = c .if1 in
     close-refused _ _ _ _ _ (pre· .0) (complete· .ensures) (if1· .taken)
 
-role-due-requires : tie.Need-role-due-requires
-role-due-requires c κs = search needs
-
 finish-requires : tie.Need-finish-requires
 finish-requires c κs =
     let pre· = c .before .before .before .before .before .before .before .before .before .pre in
     let complete· = c .before .before .before .before .before .complete in
     omega (arith, pre·, complete-place _ _ _ _ _ (complete· .ensures))
-
-resting-requires : tie.Need-resting-requires
-resting-requires c κs = search needs
-
-new-command-requires : tie.Need-new-command-requires
-new-command-requires c κs = search needs
-
-no-record-requires : tie.Need-no-record-requires
-no-record-requires c κs = search needs
 
 same-length-2 : tie.Need-same-length-2
 same-length-2 c =
@@ -60,13 +42,13 @@ pub close-spec : {M : Type 1} → statement M
 close-spec =
     tie.close
     (tie.spec
-    complete-requires
-    same-length
+    (λ c κs. search needs)
+    (λ c. search needs)
     returns
-    role-due-requires
+    (λ c κs. search needs)
     finish-requires
-    resting-requires
-    new-command-requires
-    no-record-requires
+    (λ c κs. search needs)
+    (λ c κs. search needs)
+    (λ c κs. search needs)
     same-length-2
     returns-2)

@@ -4,20 +4,11 @@ use borrow.Author.Needs.{needs}
 use Rattle.drawing.proofs.closing.complete.Statement.{statement}
 use Rattle.drawing.proofs.closing.complete.Tie as tie
 
-no-record-requires : tie.Need-no-record-requires
-no-record-requires c κs = search needs
-
 returns : tie.Need-returns
 returns c =
     let no-record· = c .no-record in
     let if1· = c .before .if1 in
     no-record· .ensures _ _ ∙ none-begun _ _ _ _ (if1· .taken)
-
-apply-begun-requires : tie.Need-apply-begun-requires
-apply-begun-requires c κs = search needs
-
-same-length : tie.Need-same-length
-same-length c = search needs
 
 returns-2 : tie.Need-returns-2
 returns-2 c =
@@ -27,4 +18,4 @@ returns-2 c =
 
 pub complete-spec : {M : Type 1} → statement M
 complete-spec =
-    tie.close (tie.spec no-record-requires returns apply-begun-requires same-length returns-2)
+    tie.close (tie.spec (λ c κs. search needs) returns (λ c κs. search needs) (λ c. search needs) returns-2)

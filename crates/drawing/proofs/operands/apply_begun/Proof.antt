@@ -4,27 +4,12 @@ use borrow.Author.Needs.{needs}
 use Rattle.drawing.proofs.operands.apply_begun.Statement.{statement}
 use Rattle.drawing.proofs.operands.apply_begun.Tie as tie
 
-role-due-requires : tie.Need-role-due-requires
-role-due-requires c κs = search needs
-
-apply-requires : tie.Need-apply-requires
-apply-requires c κs = search needs
-
-same-length : tie.Need-same-length
-same-length c = search needs
-
 returns : tie.Need-returns
 returns c =
     let role-due· = c .before .before .before .before .before .before .role-due in
     let apply· = c .before .before .before .apply in
     let if1· = c .if1 in
     begun-refused _ _ _ _ _ _ (role-due· .ensures) (apply· .ensures) (if1· .taken)
-
-next-operand-requires : tie.Need-next-operand-requires
-next-operand-requires c κs = search needs
-
-same-length-2 : tie.Need-same-length-2
-same-length-2 c = search needs
 
 returns-2 : tie.Need-returns-2
 returns-2 c =
@@ -39,10 +24,10 @@ pub apply-begun-spec : {M : Type 1} → statement M
 apply-begun-spec =
     tie.close
     (tie.spec
-    role-due-requires
-    apply-requires
-    same-length
+    (λ c κs. search needs)
+    (λ c κs. search needs)
+    (λ c. search needs)
     returns
-    next-operand-requires
-    same-length-2
+    (λ c κs. search needs)
+    (λ c. search needs)
     returns-2)

@@ -4,15 +4,6 @@ use borrow.Author.Needs.{needs}
 use Rattle.drawing.proofs.operands.data_byte.Statement.{statement}
 use Rattle.drawing.proofs.operands.data_byte.Tie as tie
 
-role-due-requires : tie.Need-role-due-requires
-role-due-requires c κs = search needs
-
-length-of-requires : tie.Need-length-of-requires
-length-of-requires c κs = search needs
-
-no-record-requires : tie.Need-no-record-requires
-no-record-requires c κs = search needs
-
 returns : tie.Need-returns
 returns c =
     let no-record· = c .no-record in
@@ -20,12 +11,6 @@ returns c =
     let length-of· = c .before .before .length-of in
     let if1· = c .before .if1 in
     no-record· .ensures _ _ ∙ data-dropped _ _ _ _ _ _ _ (role-due· .ensures) (length-of· .ensures) (if1· .taken)
-
-join-byte-requires : tie.Need-join-byte-requires
-join-byte-requires c κs = search needs
-
-no-record-requires-2 : tie.Need-no-record-requires-2
-no-record-requires-2 c κs = search needs
 
 returns-2 : tie.Need-returns-2
 returns-2 c =
@@ -43,9 +28,6 @@ apply-begun-requires c κs =
     let pre· = c .before .before .before .before .before .before .before .before .before .pre in
     (rw (join-byte· .ensures) (pre· .0), pre· .1, pre· .2)
 
-same-length : tie.Need-same-length
-same-length c = search needs
-
 returns-3 : tie.Need-returns-3
 returns-3 c =
     let role-due· = c .before .before .before .before .before .before .before .before .before .before .before .role-due in
@@ -56,9 +38,6 @@ returns-3 c =
     let apply-begun· = c .before .before .before .apply-begun in
     let if3· = c .if3 in
     last-refused _ _ _ _ _ _ _ (role-due· .ensures) (length-of· .ensures) _ (join-byte· .ensures) (if1· .left) _ (if2· .left) (apply-begun· .ensures) (if3· .taken)
-
-same-length-2 : tie.Need-same-length-2
-same-length-2 c = search needs
 
 returns-4 : tie.Need-returns-4
 returns-4 c =
@@ -75,15 +54,15 @@ pub data-byte-spec : {M : Type 1} → statement M
 data-byte-spec =
     tie.close
     (tie.spec
-    role-due-requires
-    length-of-requires
-    no-record-requires
+    (λ c κs. search needs)
+    (λ c κs. search needs)
+    (λ c κs. search needs)
     returns
-    join-byte-requires
-    no-record-requires-2
+    (λ c κs. search needs)
+    (λ c κs. search needs)
     returns-2
     apply-begun-requires
-    same-length
+    (λ c. search needs)
     returns-3
-    same-length-2
+    (λ c. search needs)
     returns-4)

@@ -4,15 +4,6 @@ use borrow.Author.Needs.{needs}
 use Rattle.drawing.proofs.operands.next_operand.Statement.{statement}
 use Rattle.drawing.proofs.operands.next_operand.Tie as tie
 
-resting-requires : tie.Need-resting-requires
-resting-requires c κs = search needs
-
-with-due-requires : tie.Need-with-due-requires
-with-due-requires c κs = search needs
-
-no-record-requires : tie.Need-no-record-requires
-no-record-requires c κs = search needs
-
 returns : tie.Need-returns
 unfolding carry
 returns c =
@@ -23,4 +14,4 @@ returns c =
 
 pub next-operand-spec : {M : Type 1} → statement M
 next-operand-spec =
-    tie.close (tie.spec resting-requires with-due-requires no-record-requires returns)
+    tie.close (tie.spec (λ c κs. search needs) (λ c κs. search needs) (λ c κs. search needs) returns)

@@ -2,13 +2,10 @@ use borrow.Author.Needs.{needs}
 use Rattle.drawing.proofs.operands.with_due.Statement.{statement}
 use Rattle.drawing.proofs.operands.with_due.Tie as tie
 
-due-after-requires : tie.Need-due-after-requires
-due-after-requires c κs = search needs
-
 returns : tie.Need-returns
 returns c =
     let due-after· = c .before .before .due-after in
     rw (due-after· .ensures)
 
 pub with-due-spec : {M : Type 1} → statement M
-with-due-spec = tie.close (tie.spec due-after-requires returns)
+with-due-spec = tie.close (tie.spec (λ c κs. search needs) returns)

@@ -4,12 +4,6 @@ use borrow.Author.Needs.{needs}
 use Rattle.drawing.proofs.ranges.command_fits.Statement.{statement}
 use Rattle.drawing.proofs.ranges.command_fits.Tie as tie
 
-opcode-fits-requires : tie.Need-opcode-fits-requires
-opcode-fits-requires c κs = search needs
-
-vertices-fit-requires : tie.Need-vertices-fit-requires
-vertices-fit-requires c κs = search needs
-
 returns : tie.Need-returns
 unfolding commandFits
 returns c = and-second (c .before .before .opcode-fits .ensures) (c .before .if1 .taken) (c .vertices-fit .ensures)
@@ -19,4 +13,4 @@ unfolding commandFits
 returns-2 c = and-first _ (c .before .opcode-fits .ensures) (c .if1 .left)
 
 pub command-fits-spec : {M : Type 1} → statement M
-command-fits-spec = tie.close (tie.spec opcode-fits-requires vertices-fit-requires returns returns-2)
+command-fits-spec = tie.close (tie.spec (λ c κs. search needs) (λ c κs. search needs) returns returns-2)

@@ -4,12 +4,6 @@ use borrow.Author.Needs.{needs}
 use Rattle.drawing.proofs.ranges.domain_fits.Statement.{statement}
 use Rattle.drawing.proofs.ranges.domain_fits.Tie as tie
 
-within-requires : tie.Need-within-requires
-within-requires c κs = search needs
-
-within-requires-2 : tie.Need-within-requires-2
-within-requires-2 c κs = search needs
-
 returns : tie.Need-returns
 unfolding domainFits
 returns c = and-second (c .before .before .within .ensures) (c .before .if1 .taken) (c .within2 .ensures)
@@ -19,4 +13,4 @@ unfolding domainFits
 returns-2 c = and-first _ (c .before .within .ensures) (c .if1 .left)
 
 pub domain-fits-spec : {M : Type 1} → statement M
-domain-fits-spec = tie.close (tie.spec within-requires within-requires-2 returns returns-2)
+domain-fits-spec = tie.close (tie.spec (λ c κs. search needs) (λ c κs. search needs) returns returns-2)

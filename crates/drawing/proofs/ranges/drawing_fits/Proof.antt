@@ -4,18 +4,6 @@ use borrow.Author.Needs.{needs}
 use Rattle.drawing.proofs.ranges.drawing_fits.Statement.{statement}
 use Rattle.drawing.proofs.ranges.drawing_fits.Tie as tie
 
-domain-fits-requires : tie.Need-domain-fits-requires
-domain-fits-requires c κs = search needs
-
-colour-fits-requires : tie.Need-colour-fits-requires
-colour-fits-requires c κs = search needs
-
-command-fits-requires : tie.Need-command-fits-requires
-command-fits-requires c κs = search needs
-
-operand-fits-requires : tie.Need-operand-fits-requires
-operand-fits-requires c κs = search needs
-
 returns : tie.Need-returns
 unfolding drawingFits
 returns c =
@@ -59,10 +47,10 @@ pub drawing-fits-spec : {M : Type 1} → statement M
 drawing-fits-spec =
     tie.close
     (tie.spec
-    domain-fits-requires
-    colour-fits-requires
-    command-fits-requires
-    operand-fits-requires
+    (λ c κs. search needs)
+    (λ c κs. search needs)
+    (λ c κs. search needs)
+    (λ c κs. search needs)
     returns
     returns-2
     returns-3

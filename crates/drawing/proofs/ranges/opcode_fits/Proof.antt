@@ -4,9 +4,6 @@ use borrow.Author.Needs.{needs}
 use Rattle.drawing.proofs.ranges.opcode_fits.Statement.{statement}
 use Rattle.drawing.proofs.ranges.opcode_fits.Tie as tie
 
-within-requires : tie.Need-within-requires
-within-requires c κs = search needs
-
 returns : tie.Need-returns
 unfolding opcodeFits
 returns c = simp (eq-eqb _ _ (c .if1 .taken))
@@ -16,4 +13,4 @@ unfolding opcodeFits
 returns-2 c = simp (ne-eqb _ _ (c .before .if1 .left)) (c .within .ensures)
 
 pub opcode-fits-spec : {M : Type 1} → statement M
-opcode-fits-spec = tie.close (tie.spec within-requires returns returns-2)
+opcode-fits-spec = tie.close (tie.spec (λ c κs. search needs) returns returns-2)

@@ -8,15 +8,6 @@ returns : tie.Need-returns
 unfolding begunFits
 returns c = simp (eq-eqb _ _ (c .if1 .taken))
 
-row-of-requires : tie.Need-row-of-requires
-row-of-requires c κs = search needs
-
-role-due-requires : tie.Need-role-due-requires
-role-due-requires c κs = search needs
-
-length-of-requires : tie.Need-length-of-requires
-length-of-requires c κs = search needs
-
 returns-2 : tie.Need-returns-2
 unfolding begunFits
 returns-2 c =
@@ -28,4 +19,4 @@ returns-2 c =
 
 pub operand-fits-spec : {M : Type 1} → statement M
 operand-fits-spec =
-    tie.close (tie.spec returns row-of-requires role-due-requires length-of-requires returns-2)
+    tie.close (tie.spec returns (λ c κs. search needs) (λ c κs. search needs) (λ c κs. search needs) returns-2)

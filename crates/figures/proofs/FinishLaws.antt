@@ -1,0 +1,87 @@
+-- Figures that finish commands, as the rules draw them.
+-- Assumes nothing.
+use Prim.Native.Nat.{ℕ, _≤_, _<_}
+use mathlib.Core.Path.{_≡_, refl}
+use mathlib.Core.Bool.{Bool, true, false}
+use mathlib.Core.List.{List, [], _∷_}
+use types.Run.{OneOf, miss}
+use denote.Enum.Declared.{tagOf}
+use borrow.Author.Tests.{lt-ltb, le-ltb}
+use Rattle.rules.proofs.Role.{the-type as the-role}
+use Rattle.rules.specs.declared.Command.{Command}
+use Rattle.rules.specs.declared.Drawing.{Drawing}
+use Rattle.rules.specs.declared.Look.{Look}
+use Rattle.rules.specs.declared.Operand.{Operand}
+use Rattle.rules.specs.declared.Point.{Point}
+use Rattle.rules.specs.declared.Role.{Role}
+use Rattle.rules.specs.declared.Role.the-variants.{MoveTo, DrawTo, DrawBy, Middle, ArcEnd, Start, Edge, Lengths, Pel, Foreground, Background, Shade, Dropped}
+use Rattle.rules.specs.Record.{flags}
+use Rattle.rules.specs.Drawing.{Draw, arcTo, closingEdge, finish}
+use Rattle.rules.proofs.Bools.{true-false}
+use Rattle.figures.specs.declared.tracing.Figure.{Figure}
+use Rattle.figures.specs.Carried.{drawingOf}
+use Rattle.figures.specs.Tracing.{penAt, figureRecords, spanFigure, arcFigure, isForeground}
+
+-- The roles but that of SELECT COLOUR's first operand
+abbrev unlike : List ℕ
+unlike = 0 ∷ 1 ∷ 2 ∷ 3 ∷ 4 ∷ 5 ∷ 6 ∷ 7 ∷ 8 ∷ 10 ∷ 11 ∷ 12 ∷ []
+
+pub not-foreground : (n : Role) → OneOf unlike (tagOf the-role n) → false ≡ isForeground n
+unfolding isForeground
+not-foreground MoveTo k = refl
+not-foreground DrawTo k = refl
+not-foreground DrawBy k = refl
+not-foreground Middle k = refl
+not-foreground ArcEnd k = refl
+not-foreground Start k = refl
+not-foreground Edge k = refl
+not-foreground Lengths k = refl
+not-foreground Pel k = refl
+not-foreground Foreground k = absurd (miss unlike 9 tt k)
+not-foreground Background k = refl
+not-foreground Shade k = refl
+not-foreground Dropped k = refl
+
+-- The roles that finish with nothing, or with another look
+abbrev plain : List ℕ
+plain = 0 ∷ 1 ∷ 2 ∷ 3 ∷ 5 ∷ 7 ∷ 8 ∷ 9 ∷ 10 ∷ 11 ∷ 12 ∷ []
+
+finish-nothing : (n : Role) (filled : Bool) (d : Drawing) → OneOf plain (tagOf the-role n) → isForeground n ≡ false → finish n filled d ≡ Draw d []
+unfolding finish isForeground
+finish-nothing MoveTo filled d k h = refl
+finish-nothing DrawTo filled d k h = refl
+finish-nothing DrawBy filled d k h = refl
+finish-nothing Middle filled d k h = refl
+finish-nothing ArcEnd filled d k h = absurd (miss plain 4 tt k)
+finish-nothing Start filled d k h = refl
+finish-nothing Edge filled d k h = absurd (miss plain 6 tt k)
+finish-nothing Lengths filled d k h = refl
+finish-nothing Pel filled d k h = refl
+finish-nothing Foreground filled d k h = true-false h
+finish-nothing Background filled d k h = refl
+finish-nothing Shade filled d k h = refl
+finish-nothing Dropped filled d k h = refl
+
+-- A command finishes by the figure g
+module _ (n : Role) (filled : Bool) (p : Point) (o : Operand) (c : Command) (l : Look) (m : List ℕ) (g : Figure) where
+  -- An arc with no end is a circle
+  pub finish-arc : n ≡ ArcEnd → g ≡ arcFigure filled false (c .start) c
+      → finish n filled (drawingOf (penAt p o) c l m) ≡ Draw (drawingOf (penAt (c .start) o) c l m) (figureRecords l g)
+  unfolding finish arcTo figureRecords
+  finish-arc h i = rw (h, i)
+
+  -- A polygon with edges, and one with none
+  pub finish-edge : n ≡ Edge → (f : ℕ) → f ≡ flags filled false true → g ≡ spanFigure 5 f p (c .start) → 1 < c .vertices
+      → finish n filled (drawingOf (penAt p o) c l m) ≡ Draw (drawingOf (penAt (c .start) o) c l m) (figureRecords l g)
+  unfolding finish closingEdge figureRecords
+  finish-edge h f e i k = rw (h, i, e, lt-ltb 1 (c .vertices) k)
+
+  pub finish-edgeless : n ≡ Edge → g ≡ spanFigure 0 0 p (c .start) → c .vertices ≤ 1
+      → finish n filled (drawingOf (penAt p o) c l m) ≡ Draw (drawingOf (penAt p o) c l m) (figureRecords l g)
+  unfolding finish closingEdge figureRecords
+  finish-edgeless h i k = rw (h, i, le-ltb 1 (c .vertices) k)
+
+  pub finish-plain : OneOf plain (tagOf the-role n) → isForeground n ≡ false → g ≡ spanFigure 0 0 p (c .start)
+      → finish n filled (drawingOf (penAt p o) c l m) ≡ Draw (drawingOf (penAt p o) c l m) (figureRecords l g)
+  unfolding figureRecords
+  finish-plain k h i = rw i (finish-nothing n filled (drawingOf (penAt p o) c l m) k h)

@@ -1,0 +1,47 @@
+use Rattle.figures.proofs.FinishLaws.{finish-arc, finish-edge, finish-edgeless, finish-plain}
+use borrow.Author.Needs.{needs}
+use Rattle.figures.proofs.finishing.finish.Statement.{statement}
+use Rattle.figures.proofs.finishing.finish.Tie as tie
+
+returns : tie.Need-returns
+returns c =
+    let enum-told· = c .before .enum-told in
+    let arc· = c .arc in
+    λ l o m. finish-arc _ _ _ o _ l m _ (enum-told· .given .1) (arc· .ensures)
+
+returns-2 : tie.Need-returns-2
+returns-2 c =
+    let enum-told2· = c .before .before .before .before .enum-told2 in
+    let flags· = c .before .flags in
+    let span2· = c .span2 in
+    let if1· = c .before .before .if1 in
+    λ l o m. finish-edge _ _ _ o _ l m _ (enum-told2· .given .1) _ (flags· .ensures) (span2· .ensures) (if1· .taken)
+
+returns-3 : tie.Need-returns-3
+returns-3 c =
+    let enum-told2· = c .before .before .enum-told2 in
+    let span· = c .before .before .before .before .span in
+    let if1· = c .if1 in
+    λ l o m. finish-edgeless _ _ _ o _ l m _ (enum-told2· .given .1) (span· .ensures) (if1· .left)
+
+returns-4 : tie.Need-returns-4
+returns-4 c =
+    let match· = c .match in
+    let pre· = c .before .before .before .pre in
+    let span· = c .before .span in
+    λ l o m. finish-plain _ _ _ o _ l m _ (match· .keys3) (pre·) (span· .ensures)
+
+pub finish-spec : {M : Type 1} → statement M
+finish-spec =
+    tie.close
+    (tie.spec
+    (λ c κs. tt)
+    (λ c. search needs)
+    (λ c κs. tt)
+    (λ c. search needs)
+    (λ c κs. tt)
+    (λ c κs. tt)
+    returns
+    returns-2
+    returns-3
+    returns-4)

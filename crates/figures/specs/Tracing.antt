@@ -1,0 +1,106 @@
+-- Points applied and commands finished: the figure of each, whatever the look
+use Prim.Native.Nat.{ℕ}
+use mathlib.Core.Bool.{Bool, true, false, _||_}
+use mathlib.Core.List.{List, [], _∷_}
+use mathlib.Core.Path.{_≡_}
+use lib.Dec.{ltb, eqb}
+use Rattle.rules.specs.declared.Command.{Command}
+use Rattle.rules.specs.declared.Drawing.{Drawing}
+use Rattle.rules.specs.declared.Look.{Look}
+use Rattle.rules.specs.declared.Operand.{Operand}
+use Rattle.rules.specs.declared.Pen.{Pen}
+use Rattle.rules.specs.declared.Point.{Point}
+use Rattle.rules.specs.declared.Record.{Record}
+use Rattle.rules.specs.declared.Role.{Role}
+use Rattle.rules.specs.declared.Role.the-variants.{MoveTo, DrawTo, DrawBy, Middle, ArcEnd, Start, Edge, Lengths, Pel, Foreground, Background, Shade, Dropped}
+use Rattle.rules.specs.Numbers.{mostVertices, origin}
+use Rattle.rules.specs.Choice.{pick}
+use Rattle.rules.specs.Operands.{displaced, displacedOut}
+use Rattle.rules.specs.Record.{flags, recordOf, figure}
+use Rattle.rules.specs.Drawing.{Outcome, Draw}
+use Rattle.records.specs.declared.Head.{Head}
+use Rattle.records.specs.Bytes.{headOf, headBytes}
+use Rattle.figures.specs.declared.tracing.Figure.{Figure}
+use Rattle.figures.specs.Carried.{drawingOf}
+
+-- The head of a look's records, their kind, flags, set and code not yet put in, and its pel
+pub record Inks (ink : Head) (pel : Point) (l : Look) : Type 0 where
+  pub head : (p q r : Point) → headBytes ink ≡ headOf (recordOf l 0 0 0 0 p q r)
+  pub size : pel ≡ l .domain .pel
+
+-- A pen at a point, with an operand begun or not
+abbrev pub penAt : Point → Operand → Pen
+penAt p o = record { point = p; operand = o }
+
+-- The record of a figure; one of kind 0 has none
+unfoldable pub figureRecords : Look → Figure → List Record
+figureRecords l f = pick (eqb (f .kind) 0) [] (figure l (f .kind) (f .flags) (f .p0) (f .p1) (f .p2) ∷ [])
+
+-- A figure by one or two points
+abbrev pub spanFigure : ℕ → ℕ → Point → Point → Figure
+spanFigure kind marks p q = record { kind = kind; flags = marks; p0 = p; p1 = q; p2 = origin }
+
+-- The arc to q by the start and the middle that a command keeps
+abbrev pub arcFigure : Bool → Bool → Point → Command → Figure
+arcFigure filled w q c =
+    record { kind = 3; flags = flags filled (c .wrapped || w) false; p0 = c .start; p1 = c .middle; p2 = q }
+
+-- A rule draws a figure: from the drawing point p with c open it goes to the drawing point q with c′ open, whatever is begun
+abbrev pub DrawsFigure : (Drawing → Outcome) → Look → Point → Command → Figure → Point → Command → Type 0
+DrawsFigure rule l p c f q c′ =
+    (o : Operand) (m : List ℕ) → rule (drawingOf (penAt p o) c l m) ≡ Draw (drawingOf (penAt q o) c′ l m) (figureRecords l f)
+
+-- SELECT COLOUR with no operand, which finishes with another look
+unfoldable pub isForeground : Role → Bool
+isForeground MoveTo = false
+isForeground DrawTo = false
+isForeground DrawBy = false
+isForeground Middle = false
+isForeground ArcEnd = false
+isForeground Start = false
+isForeground Edge = false
+isForeground Lengths = false
+isForeground Pel = false
+isForeground Foreground = true
+isForeground Background = false
+isForeground Shade = false
+isForeground Dropped = false
+
+-- The operands that are counted from the drawing point
+unfoldable pub isRelative : Role → Bool
+isRelative MoveTo = false
+isRelative DrawTo = false
+isRelative DrawBy = true
+isRelative Middle = true
+isRelative ArcEnd = true
+isRelative Start = false
+isRelative Edge = true
+isRelative Lengths = false
+isRelative Pel = false
+isRelative Foreground = false
+isRelative Background = false
+isRelative Shade = false
+isRelative Dropped = false
+
+-- The point an operand leads to, and whether a sum for it left the range
+abbrev pub aim : Role → Point → Point → Point
+aim n p v = pick (isRelative n) (displaced p v) v
+
+abbrev pub strays : Role → Point → Point → Bool
+strays n p v = pick (isRelative n) (displacedOut p v) false
+
+-- The operands that are points and not refused, with so many vertices read
+unfoldable pub isPoint : Role → ℕ → Bool
+isPoint MoveTo n = true
+isPoint DrawTo n = true
+isPoint DrawBy n = true
+isPoint Middle n = true
+isPoint ArcEnd n = true
+isPoint Start n = true
+isPoint Edge n = ltb n mostVertices
+isPoint Lengths n = false
+isPoint Pel n = false
+isPoint Foreground n = false
+isPoint Background n = false
+isPoint Shade n = false
+isPoint Dropped n = false
