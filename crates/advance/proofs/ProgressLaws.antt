@@ -297,14 +297,6 @@ pub pen-rests : (pen : Pen) (n : ℕ) (q : Point) → 0 < n → record { point =
 pen-rests pen zero q h = absurd (omega (arith, h))
 pen-rests pen (suc n) q h = refl
 
--- A run of no bytes leads nowhere
-pub walk-still : (budget : ℕ) (p : Progress) (cells places firsts : List ℕ) (pen : Pen) (command : Command) (look : Look) (map st out : List ℕ) {piece : List ℕ} {x : Place}
-    → (n written : ℕ) (pen₁ : Pen) (command₁ : Command) → n ≡ 0 → written ≡ p .written → pen₁ ≡ pen → command₁ ≡ command
-    → Walk piece x (placeAt budget (ranOn n written p) cells places firsts (drawingOf pen₁ command₁ look map) st out)
-    → Walk piece x (placeAt budget p cells places firsts (drawingOf pen command look map) st out)
-walk-still budget p cells places firsts pen command look map st out n written pen₁ command₁ e f g h w =
-    rw (e, f, g, h, after-same (p .depth) (p .at), add-zero (p .steps)) at w
-
 -- No byte is drawn
 
 pub none-walk : (budget : ℕ) (p : Progress) (cells places firsts : List ℕ) (pen : Pen) (command : Command) (look : Look) (map st piece out : List ℕ)

@@ -51,14 +51,6 @@ pub fn run(
         piece,
         out,
     );
-    if ran.count == 0 {
-        return Reached {
-            progress,
-            pen,
-            command,
-            look,
-        };
-    }
     let pen = ran.pen;
     let command = ran.command;
     Reached {

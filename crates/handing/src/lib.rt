@@ -21,20 +21,31 @@ pub struct Fed {
     pub session: Session,
 }
 
-pub fn start(session: Session) -> Progress
+// Where a reading starts from a session.
+pub fn start(session: Session) -> Reached
     ensures { λ r. ⌜ r ≡ startOf session ⌝ }
 {
     let bodies = session.bodies;
     let coding = session.coding;
     let sets = coding.sets;
     let waiting = coding.waiting;
-    Progress {
+    let drawing = session.drawing;
+    let pen = drawing.pen;
+    let command = drawing.command;
+    let look = drawing.look;
+    let progress = Progress {
         at: 0,
         written: 0,
         sets,
         waiting,
         steps: session.steps,
         depth: bodies.depth,
+    };
+    Reached {
+        progress,
+        pen,
+        command,
+        look,
     }
 }
 

@@ -60,10 +60,10 @@ stands-any budget x cells places firsts map st h m =
     let v = h .sound in
     record { sound = record { size = v .size; running = v .running; bodies = v .bodies; waiting = v .waiting; drawing = v .drawing }; on = h .on; within = h .within }
 
-module _ (s : Session) (st₀ piece out₀ : List ℕ) (valid : Valid (stateLent s st₀)) (p₀ : Progress) (e₀ : p₀ ≡ startOf s) where
+module _ (s : Session) (st₀ piece out₀ : List ℕ) (valid : Valid (stateLent s st₀)) (x₀ : Reached) (e₀ : x₀ ≡ startOf s) where
   -- The state that is lent, in parts
   abbrev first : State
-  first = stateAt (s .budget) p₀ (s .bodies .cells) (s .bodies .places) (s .coding .firsts) (s .drawing) st₀
+  first = stateAt (s .budget) (x₀ .progress) (s .bodies .cells) (s .bodies .places) (s .coding .firsts) (drawingOf (x₀ .pen) (x₀ .command) (x₀ .look) (s .drawing .map)) st₀
 
   first-lent : first ≡ stateLent s st₀
   first-lent =
@@ -74,9 +74,9 @@ module _ (s : Session) (st₀ piece out₀ : List ℕ) (valid : Valid (stateLent
         store = st₀;
       }) (sym (valid .running)))
 
-  pub loop-first : Kept first piece out₀ first (p₀ .at) (p₀ .written) out₀
+  pub loop-first : Kept first piece out₀ first (x₀ .progress .at) (x₀ .progress .written) out₀
   loop-first =
-      subst (λ (q : Progress). Kept first piece out₀ first (q .at) (q .written) out₀) (sym e₀)
+      subst (λ (q : Reached). Kept first piece out₀ first (q .progress .at) (q .progress .written) out₀) (sym e₀)
       (kept-first first piece out₀ (subst Valid (sym first-lent) valid))
 
   -- A reading that has ended hands the whole over

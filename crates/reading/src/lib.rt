@@ -6,7 +6,6 @@ use handing::start;
 use rules::Answer;
 use rules::Refusal;
 use rules::Session;
-use turns::progress::Reached;
 use turns::progress::after_drawing;
 use turns::progress::with_progress;
 use turns::step::Course;
@@ -38,16 +37,7 @@ pub fn read(session: Session, store: &mut [u8], piece: &[u8], out: &mut [u8]) ->
     let mut places = bodies.places;
     let mut firsts = coding.firsts;
     let mut map = drawing.map;
-    let pen = drawing.pen;
-    let command = drawing.command;
-    let look = drawing.look;
-    let progress = start(session);
-    let mut reached = Reached {
-        progress,
-        pen,
-        command,
-        look,
-    };
+    let mut reached = start(session);
     loop {
         let taken = reached.progress.steps;
         reached = run(

@@ -8,15 +8,21 @@ use Rattle.turns.specs.declared.progress.Progress.{Progress}
 use Rattle.turns.specs.declared.progress.Reached.{Reached}
 
 -- Where a reading starts from a session
-abbrev pub startOf : Session → Progress
+abbrev pub startOf : Session → Reached
 startOf s =
     record {
-      at = 0;
-      written = 0;
-      steps = s .steps;
-      depth = s .bodies .depth;
-      sets = s .coding .sets;
-      waiting = s .coding .waiting;
+      progress =
+          record {
+            at = 0;
+            written = 0;
+            steps = s .steps;
+            depth = s .bodies .depth;
+            sets = s .coding .sets;
+            waiting = s .coding .waiting;
+          };
+      pen = s .drawing .pen;
+      command = s .drawing .command;
+      look = s .drawing .look;
     }
 
 -- An accepted step, which counts
