@@ -4,7 +4,7 @@ use mathlib.Core.List.{List}
 use mathlib.Core.Path.{_≡_}
 use lib.ListN.{getD}
 use Rattle.rules.specs.Store.{firstOf}
-use Rattle.macros.specs.Lent.{IsName}
+use Rattle.store.specs.Lent.{IsName}
 
 -- "zero for an empty body" is the first cell of the name
 abbrev pub NamesEmpty : List ℕ → ℕ → Type 0

@@ -1,5 +1,5 @@
 // Calls of empty bodies.
-use macros::names::first_of;
+use store::names::first_of;
 ghost use Prim.Native.Nat.{_+_, _≤_};
 ghost use mathlib.Core.Path.{_≡_};
 ghost use mathlib.Core.Bool.{true};

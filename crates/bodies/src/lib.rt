@@ -1,8 +1,8 @@
 // The stack of running macro bodies, outermost first, lent as two arrays beside the depth.
 pub mod calls;
 
-use macros::cursors::has_left;
-use macros::cursors::read_body;
+use store::cursors::has_left;
+use store::cursors::read_body;
 use rules::Cursor;
 use rules::MOST_BYTES;
 use rules::MOST_DEPTH;
@@ -13,7 +13,7 @@ ghost use Prim.Native.Nat.{ℕ, _-_, _<_, _≤_};
 ghost use lib.ListN.{length, set};
 ghost use Rattle.rules.specs.Bodies.{bodyAt, depthLeft, bytesLeft, readBody};
 ghost use Rattle.rules.specs.Ranges.{placesFit, bodiesFit};
-ghost use Rattle.macros.specs.Lent.{Sized};
+ghost use Rattle.store.specs.Lent.{Sized};
 ghost use Rattle.bodies.specs.Stack.{bodiesOf};
 
 pub fn body_at(cells: &[u8; 8], places: &[u8; 8], index: u8) -> Cursor

@@ -18,11 +18,11 @@ use Rattle.rules.specs.declared.Coding.{Coding}
 use Rattle.rules.specs.Choice.{pick}
 use Rattle.rules.specs.Store.{firstOf, setFirst, freeBody, Storing}
 use Rattle.rules.specs.Coding.{Refuse, React, named, openBody, keep, classOf, reactTo}
-use Rattle.macros.specs.Freeing.{freeingOf, KeptIfRefused}
-use Rattle.storing.specs.Storing.{storingOf}
-use Rattle.macros.specs.declared.chains.FreeAnswer.{FreeAnswer}
-use Rattle.macros.specs.declared.chains.FreeAnswer.the-variants.{Done as Freed, Refused as NotFreed}
-use Rattle.storing.specs.declared.definitions.StoreAnswer.{StoreAnswer}
+use Rattle.store.specs.Freeing.{freeingOf, KeptIfRefused}
+use Rattle.definitions.specs.Storing.{storingOf}
+use Rattle.store.specs.declared.chains.FreeAnswer.{FreeAnswer}
+use Rattle.store.specs.declared.chains.FreeAnswer.the-variants.{Done as Freed, Refused as NotFreed}
+use Rattle.definitions.specs.declared.appending.StoreAnswer.{StoreAnswer}
 use Rattle.coding.specs.View.{codingOf, reactionOf}
 use Rattle.coding.specs.declared.reactions.Reacted.{Reacted}
 

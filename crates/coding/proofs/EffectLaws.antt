@@ -31,7 +31,7 @@ use Rattle.rules.specs.declared.Waiting.the-variants.{Nothing, Shifted, Escape,
 use Rattle.rules.specs.Numbers.{esc}
 use Rattle.rules.specs.Store.{firstOf, Freeing, NotFreed, Freed, freeBody, Storing, NotStored, Stored, storeByte, storeEscapeAnd}
 use Rattle.rules.specs.Coding.{Reaction, Refuse, Call, React, setOf, shiftedTo, wait, named, openBody, keep, filling, inBody, innerOf, inBodyEscape, finalOf, escape, designatedBy, designation, control, graphic, classOf, reactTo, react}
-use Rattle.macros.specs.Lent.{IsName}
+use Rattle.store.specs.Lent.{IsName}
 use Rattle.coding.specs.View.{codingOf, effectOn, setsAfter, reactionOf}
 use Rattle.coding.specs.declared.reactions.Effect.{Effect}
 use Rattle.coding.specs.declared.reactions.Effect.the-variants.{Calls, Acts}

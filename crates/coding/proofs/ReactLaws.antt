@@ -22,7 +22,7 @@ use Rattle.rules.specs.declared.Waiting.{Waiting}
 use Rattle.rules.specs.declared.Waiting.the-variants.{Nothing, Shifted, Escape, Designator, Longer, Name, Body, BodyEscape}
 use Rattle.rules.specs.Coding.{Refuse, classOf, reactTo, react}
 use Rattle.rules.specs.Ranges.{nameFits, waitingFits}
-use Rattle.macros.specs.Lent.{IsName}
+use Rattle.store.specs.Lent.{IsName}
 use Rattle.coding.specs.View.{codingOf, setsAfter, elementRead, setRead, readFrom}
 use Rattle.coding.specs.declared.reactions.Effect.{Effect}
 use Rattle.coding.specs.declared.reactions.Effect.the-variants.{Refuses, Calls, Acts, Uses, Designates}

@@ -1,14 +1,14 @@
 // The coding layer: what a byte does by what is waited for. It asks an action of drawing, calls a macro or is refused.
 pub mod characters;
-pub mod definitions;
+pub mod defining;
 pub mod escapes;
 pub mod ranges;
 pub mod reactions;
 
 use crate::characters::read_from;
-use crate::definitions::in_body;
-use crate::definitions::in_body_escape;
-use crate::definitions::take_name;
+use crate::defining::in_body;
+use crate::defining::in_body_escape;
+use crate::defining::take_name;
 use crate::escapes::in_designation;
 use crate::escapes::in_escape;
 use crate::escapes::in_longer;
@@ -25,7 +25,7 @@ ghost use mathlib.Core.Path.{_≡_};
 ghost use mathlib.Core.Bool.{true};
 ghost use Rattle.rules.specs.Coding.{react};
 ghost use Rattle.rules.specs.Ranges.{waitingFits};
-ghost use Rattle.macros.specs.Lent.{Sized};
+ghost use Rattle.store.specs.Lent.{Sized};
 ghost use Rattle.coding.specs.View.{codingOf, reactionOf, elementRead, setRead, AsLent};
 
 // The element that a byte is read from: the one a single shift names, else the one in use.

@@ -1,7 +1,7 @@
 // Closing: a begun operand is completed and applied, then the command finishes by the operand that is due.
-use crate::operands::apply_begun;
-use crate::operands::resting;
-use crate::operands::role_due;
+use crate::data::apply_begun;
+use crate::data::resting;
+use crate::data::role_due;
 use figures::Drawn;
 use figures::answers::moved;
 use figures::answers::no_record;

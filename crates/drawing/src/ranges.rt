@@ -1,5 +1,5 @@
 // The ranges of a drawing state that is lent.
-use crate::operands::role_due;
+use crate::data::role_due;
 use rules::Colour;
 use rules::Command;
 use rules::Domain;

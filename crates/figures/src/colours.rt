@@ -2,9 +2,9 @@
 use crate::Drawn;
 use crate::answers::no_record;
 use crate::answers::one_record;
-use coordinates::Hue;
-use coordinates::address_of;
-use coordinates::hue_of;
+use operands::Hue;
+use operands::address_of;
+use operands::hue_of;
 use records::figure;
 use rules::Colour;
 use rules::Command;

@@ -1,8 +1,8 @@
 // DOMAIN: the lengths of operands and the pel.
 use crate::Drawn;
 use crate::answers::no_record;
-use coordinates::byte_of;
-use coordinates::domain_of;
+use operands::byte_of;
+use operands::domain_of;
 use rules::Command;
 use rules::Look;
 use rules::Pen;

@@ -16,7 +16,7 @@ use crate::tracing::is_point;
 use crate::tracing::put_figure;
 use crate::tracing::target;
 use crate::tracing::trace;
-use coordinates::point_of;
+use operands::point_of;
 use records::head_of;
 use rules::Command;
 use rules::Look;

@@ -1,6 +1,6 @@
 // Points applied: the figure that each draws, and what it leaves, by its role. A single step and a run draw by these.
-use coordinates::Displaced;
-use coordinates::displace;
+use operands::Displaced;
+use operands::displace;
 use records::Head;
 use records::flags;
 use records::put_words;

@@ -14,7 +14,7 @@ use rules::Session;
 use rules::Status;
 use rules::Verdict;
 use tables::escapes::unfinished;
-use verdict::verdict;
+use ranges::verdict;
 ghost use mathlib.Core.Path.{_≡_};
 ghost use mathlib.Core.List.{List};
 ghost use Prim.Native.Nat.{ℕ, _≤_};

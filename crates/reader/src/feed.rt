@@ -5,7 +5,7 @@ use reading::read;
 use rules::Answer;
 use rules::Session;
 use rules::Verdict;
-use verdict::verdict;
+use ranges::verdict;
 ghost use Rattle.rules.specs.Calls.{unread};
 ghost use Rattle.rules.specs.Step.{stateLent};
 ghost use Rattle.reader.specs.Promises.{Feeds};

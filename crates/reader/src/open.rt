@@ -1,5 +1,5 @@
 // Opening a page.
-use macros::opening::initialise;
+use store::opening::initialise;
 use rules::Answer;
 use rules::Bodies;
 use rules::Coding;

@@ -6,8 +6,8 @@ use lib.ListN.{length, drop}
 use Rattle.rules.specs.Reading.{Room}
 use Rattle.rules.specs.Step.{State, removeSpent}
 use Rattle.rules.proofs.Readings.{reading-removed}
-use Rattle.advance.specs.Walk.{Place, budgetLeft, Walk, none, removed, step}
-use Rattle.advance.proofs.ProgressLaws.{walk-stands}
+use Rattle.turn_runs.specs.Walk.{Place, budgetLeft, Walk, none, removed, step}
+use Rattle.turn_runs.proofs.ProgressLaws.{walk-stands}
 use Rattle.reading.proofs.Whole.{Kept, kept-on}
 
 abbrev KeptAt : State → List ℕ → List ℕ → Place → Type 0

@@ -23,8 +23,8 @@ use Rattle.records.proofs.Writes.{overwrite-length}
 use Rattle.turns.specs.declared.step.Course.{Course}
 use Rattle.turns.specs.declared.step.Course.the-variants.{GoesOn, Ends as Ends·course, Draws}
 use Rattle.turns.specs.Leaving.{Left, leaves}
-use Rattle.advance.specs.Walk.{placed, Stands, budgetLeft, none, step}
-use Rattle.advance.proofs.ProgressLaws.{walk-stands}
+use Rattle.turn_runs.specs.Walk.{placed, Stands, budgetLeft, none, step}
+use Rattle.turn_runs.proofs.ProgressLaws.{walk-stands}
 
 -- So many bytes consumed and records written before a reading
 abbrev ahead : ℕ → List ℕ → Reading → Reading

@@ -1,5 +1,5 @@
 // A reading of a piece, turn by turn and run by run, as far as the output has room.
-use advance::run::run;
+use turn_runs::run::run;
 use handing::Fed;
 use handing::finish;
 use handing::start;

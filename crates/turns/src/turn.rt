@@ -21,7 +21,7 @@ ghost use Rattle.rules.specs.Numbers.{roomForStep};
 ghost use Rattle.rules.specs.Turn.{turn};
 ghost use Rattle.rules.specs.Reading.{consumedBy};
 ghost use Rattle.rules.specs.Ranges.{waitingFits};
-ghost use Rattle.macros.specs.Lent.{Sized};
+ghost use Rattle.store.specs.Lent.{Sized};
 ghost use Rattle.bodies.specs.Stack.{bodiesOf};
 ghost use Rattle.turns.specs.Leaving.{nothingLeft, nextByte, sourceAt, leaves};
 ghost use Rattle.turns.specs.View.{stateAt, leftOf, NoneSpent, DrawDue, RoomBy};

@@ -7,7 +7,7 @@ use Rattle.figures.specs.Carried.{drawingOf}
 use Rattle.turns.specs.declared.progress.Reached.{Reached}
 use Rattle.turns.specs.View.{stateAt}
 use Rattle.turns.proofs.TurnLaws.{valid-store, valid-depth}
-use Rattle.advance.proofs.ProgressLaws.{walk-steps}
+use Rattle.turn_runs.proofs.ProgressLaws.{walk-steps}
 use Rattle.reading.proofs.ReadLaws.{loop-first, loop-on, loop-ends, loop-draws, loop-refused, drawn-due, drawn-room, stands-any}
 use Rattle.reading.proofs.WalkLaws.{walk-keeps}
 use Rattle.reading.proofs.Whole.{Kept}

@@ -1,0 +1,365 @@
+use borrow.Author.Needs.{needs, length-unmapped}
+use native.Mathlib.Omega.{arith}
+use mathlib.Core.Path.{_≡_, refl, sym, ap, _∙_}
+use mathlib.Core.List.{List}
+use Prim.Native.Nat.{ℕ, _+_, _-_, _≤_}
+use lib.ListN.{length}
+use borrow.Author.Tests.{not-false}
+use Rattle.rules.specs.declared.Command.{Command}
+use Rattle.rules.specs.declared.Look.{Look}
+use Rattle.rules.specs.Drawing.{rowOf}
+use Rattle.drawing_runs.specs.Run.{standing}
+use Rattle.drawing_runs.specs.Strokes.{penAfter}
+use Rattle.figures.specs.Tracing.{Inks}
+use Rattle.command_runs.proofs.CommandLaws.{after-own, after-moved, Reaches, reaches-none, reaches-opened, reaches-dropped, reaches-end, row-next, multi-range}
+use Rattle.command_runs.proofs.PointLaws.{reaches-point}
+use Rattle.command_runs.proofs.run_commands.Statement.{statement}
+use Rattle.command_runs.proofs.run_commands.Tie as tie
+
+abbrev Inv-loop : tie.InvT-loop
+Inv-loop pen bytes from to out₀ at ink domain pel n table row₀ place₀ at₀ point₀ command₀ out row place at′ point command =
+    (row ≡ rowOf (command .opcode)) × (from ≤ place) × (place ≤ to) × (length out ≡ length out₀) × (at′ ≤ length out)
+    × (length (pen .operand .bytes) ≡ 8) × (penAfter (place - from) pen point .point ≡ point)
+    × ((l : Look) (m : List ℕ) → Inks ink pel l → n ≡ l .domain .multi → domain .three ≡ l .domain .three
+    → Reaches bytes from (standing pen command₀ l m at₀ out₀) pen place point command l m at′ out)
+
+abbrev μ-loop : tie.MeasureT-loop
+μ-loop pen bytes from to out₀ at ink domain pel n table row₀ place₀ at₀ point₀ command₀ out row place at′ point command = to - place
+
+loop-holds : tie.Need-loop-holds Inv-loop μ-loop
+loop-holds c =
+    let args· = c .before .before .before .before .before .before .before .before .before .args in
+    let good· = c .before .before .before .before .before .before .before .before .before .good in
+    let row-of· = c .before .row-of in
+    let pre· = c .before .before .before .before .before .before .before .before .before .pre in
+    -- What is told of the array in the pen lent
+    let eight = length-unmapped ℕ (args· .pen .operand .bytes) 8 (good· .0 .1 .1 .1 .0 .1 .1 .0 .1 .0 .1) in
+    (row-of· .ensures, omega arith, pre· .3, refl, pre· .5, eight, after-own (args· .pen) (args· .from - args· .from), λ l m k h t. reaches-none _ _ _ _ l m _ _)
+
+sub-if1 : tie.Need-sub-if1 Inv-loop μ-loop
+sub-if1 c =
+    let loop· = c .before .loop in
+    loop· .inv .4
+
+sub-after : tie.Need-sub-after Inv-loop μ-loop
+sub-after c =
+    let loop· = c .before .before .loop in
+    loop· .inv .1
+
+same-length : tie.Need-same-length Inv-loop μ-loop
+same-length c =
+    let loop· = c .before .before .before .loop in
+    loop· .inv .3
+
+returns : tie.Need-returns Inv-loop μ-loop
+returns c =
+    let args· = c .before .before .before .before .before .before .before .before .before .before .before .before .before .args in
+    let head-of· = c .before .before .before .before .before .before .before .before .before .before .head-of in
+    let loop· = c .before .before .before .loop in
+    let after· = c .after in
+    let k : Inks _ _ (args· .look) = record { head = head-of· .ensures; size = refl } in
+    reaches-end _ _ _ _ _ _ _ _ _ _ (args· .look) _ _ _ (loop· .inv .1) (loop· .inv .2) (after· .ensures) (λ m. loop· .inv .7 (args· .look) m k refl refl)
+
+shared-slice-read-byte : tie.Need-shared-slice-read-byte Inv-loop μ-loop
+shared-slice-read-byte c =
+    let loop-test· = c .before .before .before .loop-test in
+    let pre· = c .before .before .before .before .before .before .before .before .before .before .before .before .before .before .pre in
+    omega (arith, loop-test· .taken, pre· .4)
+
+sub-after-2 : tie.Need-sub-after-2 Inv-loop μ-loop
+sub-after-2 c =
+    let loop· = c .before .before .before .before .before .before .before .loop in
+    loop· .inv .1
+
+same-length-2 : tie.Need-same-length-2 Inv-loop μ-loop
+same-length-2 c =
+    let loop· = c .before .before .before .before .before .before .before .before .loop in
+    loop· .inv .3
+
+returns-2 : tie.Need-returns-2 Inv-loop μ-loop
+returns-2 c =
+    let args· = c .before .before .before .before .before .before .before .before .before .before .before .before .before .before .before .before .before .before .args in
+    let head-of· = c .before .before .before .before .before .before .before .before .before .before .before .before .before .before .before .head-of in
+    let loop· = c .before .before .before .before .before .before .before .before .loop in
+    let after2· = c .after2 in
+    let k : Inks _ _ (args· .look) = record { head = head-of· .ensures; size = refl } in
+    reaches-end _ _ _ _ _ _ _ _ _ _ (args· .look) _ _ _ (loop· .inv .1) (loop· .inv .2) (after2· .ensures) (λ m. loop· .inv .7 (args· .look) m k refl refl)
+
+array-copy-out-next : tie.Need-array-copy-out-next Inv-loop μ-loop
+array-copy-out-next c =
+    let row-place· = c .row-place in
+    let if2· = c .before .before .before .if2 in
+    omega (arith, row-place· .ensures, if2· .taken)
+
+open-next-requires : tie.Need-open-next-requires Inv-loop μ-loop
+open-next-requires c κs =
+    let opens· = c .before .before .before .before .opens in
+    let if3· = c .before .before .before .if3 in
+    let loop· = c .before .before .before .before .before .before .before .before .before .before .loop in
+    let role-due· = c .before .before .before .before .before .before .before .role-due in
+    let if1· = c .before .before .before .before .before .before .before .before .if1 in
+    let rows· = c .before .before .before .before .before .before .before .before .before .before .before .before .before .rows in
+    let row-place· = c .before .before .row-place in
+    let if2· = c .before .before .before .before .before .if2 in
+    let w = opens· .ensures (not-false (opens· .result) (if3· .left)) in
+    (loop· .inv .0, rw (← role-due· .ensures) (w .0), omega (arith, if1· .left, loop· .inv .4), row-next (rows· .ensures) (row-place· .result) _ _ (row-place· .ensures) (if2· .taken))
+
+add-place : tie.Need-add-place Inv-loop μ-loop
+add-place c =
+    let loop-test· = c .before .before .before .before .before .before .before .before .before .before .before .before .before .before .loop-test in
+    let fits· = c .before .before .before .before .before .before .before .before .before .before .before .before .before .before .before .before .before .before .before .before .before .before .before .before .before .fits in
+    omega (arith, loop-test· .taken, fits· .to)
+
+leaves-strokes-requires : tie.Need-leaves-strokes-requires Inv-loop μ-loop
+leaves-strokes-requires c κs =
+    let loop-test· = c .before .before .before .before .before .before .before .before .before .before .before .before .before .before .loop-test in
+    let pre· = c .before .before .before .before .before .before .before .before .before .before .before .before .before .before .before .before .before .before .before .before .before .before .before .before .before .pre in
+    (omega (arith, loop-test· .taken), pre· .4)
+
+sub-after-3 : tie.Need-sub-after-3 Inv-loop μ-loop
+sub-after-3 c =
+    let loop· = c .before .before .before .before .before .before .before .before .before .before .before .before .before .before .before .before .before .loop in
+    omega (arith, loop· .inv .1)
+
+same-length-3 : tie.Need-same-length-3 Inv-loop μ-loop
+same-length-3 c =
+    let open-next· = c .before .before .before .before .before .before .before .open-next in
+    let loop· = c .before .before .before .before .before .before .before .before .before .before .before .before .before .before .before .before .before .before .loop in
+    open-next· .kept .1 .1 .1 .1 .1 .1 .1 .0 ∙ loop· .inv .3
+
+returns-3 : tie.Need-returns-3 Inv-loop μ-loop
+returns-3 c =
+    let args· = c .before .before .before .before .before .before .before .before .before .before .before .before .before .before .before .before .before .before .before .before .before .before .before .before .before .before .before .before .args in
+    let head-of· = c .before .before .before .before .before .before .before .before .before .before .before .before .before .before .before .before .before .before .before .before .before .before .before .before .before .head-of in
+    let opens· = c .before .before .before .before .before .before .before .before .before .before .before .before .opens in
+    let if3· = c .before .before .before .before .before .before .before .before .before .before .before .if3 in
+    let loop· = c .before .before .before .before .before .before .before .before .before .before .before .before .before .before .before .before .before .before .loop in
+    let loop-test· = c .before .before .before .before .before .before .before .before .before .before .before .before .before .before .before .before .before .loop-test in
+    let after3· = c .after3 in
+    let pre· = c .before .before .before .before .before .before .before .before .before .before .before .before .before .before .before .before .before .before .before .before .before .before .before .before .before .before .before .before .pre in
+    let if1· = c .before .before .before .before .before .before .before .before .before .before .before .before .before .before .before .before .if1 in
+    let open-next· = c .before .before .before .before .before .before .before .open-next in
+    let k : Inks _ _ (args· .look) = record { head = head-of· .ensures; size = refl } in
+    let w = opens· .ensures (not-false (opens· .result) (if3· .left)) in
+    reaches-end _ _ _ _ _ _ _ _ _ _ (args· .look) _ _ _ (omega (arith, loop· .inv .1)) (omega (arith, loop-test· .taken)) (after3· .ensures) (λ m. reaches-opened _ _ _ _ _ _ _ (args· .look) m _ _ _ _ _ _ _ (loop· .inv .1) (pre· .0) (loop· .inv .6) (omega (arith, if1· .left, loop· .inv .4)) (w .1) (λ o z. open-next· .ensures .0 (args· .look) o m k z) (loop· .inv .7 (args· .look) m k refl refl))
+
+loop-less : tie.Need-loop-less Inv-loop μ-loop
+loop-less c =
+    let loop-test· = c .before .before .before .before .before .before .before .before .before .before .before .before .before .before .before .before .loop-test in
+    omega (arith, loop-test· .taken)
+
+loop-again : tie.Need-loop-again Inv-loop μ-loop
+loop-again c =
+    let opens· = c .before .before .before .before .before .before .before .before .before .before .before .opens in
+    let if3· = c .before .before .before .before .before .before .before .before .before .before .if3 in
+    let open-next· = c .before .before .before .before .before .before .open-next in
+    let loop· = c .before .before .before .before .before .before .before .before .before .before .before .before .before .before .before .before .before .loop in
+    let loop-test· = c .before .before .before .before .before .before .before .before .before .before .before .before .before .before .before .before .loop-test in
+    let if1· = c .before .before .before .before .before .before .before .before .before .before .before .before .before .before .before .if1 in
+    let args· = c .before .before .before .before .before .before .before .before .before .before .before .before .before .before .before .before .before .before .before .before .before .before .before .before .before .before .before .args in
+    let pre· = c .before .before .before .before .before .before .before .before .before .before .before .before .before .before .before .before .before .before .before .before .before .before .before .before .before .before .before .pre in
+    let w = opens· .ensures (not-false (opens· .result) (if3· .left)) in (
+      open-next· .ensures .1,
+      omega (arith, loop· .inv .1),
+      omega (arith, loop-test· .taken),
+      open-next· .kept .1 .1 .1 .1 .1 .1 .1 .0 ∙ loop· .inv .3,
+      omega (arith, if1· .left, loop· .inv .4, open-next· .ensures .2, open-next· .kept .1 .1 .1 .1 .1 .1 .1 .0),
+      loop· .inv .5,
+      after-moved (args· .pen) (loop· .place + 1 - args· .from) (open-next· .result .point) (omega (arith, loop· .inv .1)),
+      λ l m k h t. reaches-opened _ _ _ _ _ _ _ l m _ _ _ _ _ _ _ (loop· .inv .1) (pre· .0) (loop· .inv .6) (omega (arith, if1· .left, loop· .inv .4)) (w .1) (λ o z. open-next· .ensures .0 l o m k z) (loop· .inv .7 l m k h t),
+    )
+
+point-due-requires : tie.Need-point-due-requires Inv-loop μ-loop
+point-due-requires c κs =
+    let args· = c .before .before .before .before .before .before .before .before .before .before .before .before .before .before .before .args in
+    let pre· = c .before .before .before .before .before .before .before .before .before .before .before .before .before .before .before .pre in
+    let loop· = c .before .before .before .before .before .loop in
+    (multi-range (args· .look .domain) (pre· .1) .1, loop· .inv .2, pre· .4)
+
+sub-drops : tie.Need-sub-drops Inv-loop μ-loop
+sub-drops c =
+    let loop· = c .before .before .before .before .before .before .before .before .loop in
+    loop· .inv .1
+
+sub-after-4 : tie.Need-sub-after-4 Inv-loop μ-loop
+sub-after-4 c =
+    let loop· = c .before .before .before .before .before .before .before .before .before .before .loop in
+    loop· .inv .1
+
+same-length-4 : tie.Need-same-length-4 Inv-loop μ-loop
+same-length-4 c =
+    let loop· = c .before .before .before .before .before .before .before .before .before .before .before .loop in
+    loop· .inv .3
+
+returns-4 : tie.Need-returns-4 Inv-loop μ-loop
+returns-4 c =
+    let args· = c .before .before .before .before .before .before .before .before .before .before .before .before .before .before .before .before .before .before .before .before .before .args in
+    let head-of· = c .before .before .before .before .before .before .before .before .before .before .before .before .before .before .before .before .before .before .head-of in
+    let loop· = c .before .before .before .before .before .before .before .before .before .before .before .loop in
+    let after4· = c .after4 in
+    let k : Inks _ _ (args· .look) = record { head = head-of· .ensures; size = refl } in
+    reaches-end _ _ _ _ _ _ _ _ _ _ (args· .look) _ _ _ (loop· .inv .1) (loop· .inv .2) (after4· .ensures) (λ m. loop· .inv .7 (args· .look) m k refl refl)
+
+add-place-2 : tie.Need-add-place-2 Inv-loop μ-loop
+add-place-2 c =
+    let loop-test· = c .before .before .before .before .before .before .before .before .before .loop-test in
+    let fits· = c .before .before .before .before .before .before .before .before .before .before .before .before .before .before .before .before .before .before .before .before .fits in
+    omega (arith, loop-test· .taken, fits· .to)
+
+loop-less-2 : tie.Need-loop-less-2 Inv-loop μ-loop
+loop-less-2 c =
+    let loop-test· = c .before .before .before .before .before .before .before .before .before .loop-test in
+    omega (arith, loop-test· .taken)
+
+loop-again-2 : tie.Need-loop-again-2 Inv-loop μ-loop
+loop-again-2 c =
+    let drops· = c .before .drops in
+    let if5· = c .if5 in
+    let loop· = c .before .before .before .before .before .before .before .before .before .before .loop in
+    let loop-test· = c .before .before .before .before .before .before .before .before .before .loop-test in
+    let args· = c .before .before .before .before .before .before .before .before .before .before .before .before .before .before .before .before .before .before .before .before .args in
+    let if1· = c .before .before .before .before .before .before .before .before .if1 in
+    let if2· = c .before .before .before .before .before .if2 in
+    let role-due· = c .before .before .before .before .before .before .before .role-due in
+    let w = drops· .ensures (not-false (drops· .result) (if5· .left)) in (
+      loop· .inv .0,
+      omega (arith, loop· .inv .1),
+      omega (arith, loop-test· .taken),
+      loop· .inv .3,
+      loop· .inv .4,
+      loop· .inv .5,
+      after-moved (args· .pen) (loop· .place + 1 - args· .from) (loop· .point) (omega (arith, loop· .inv .1)),
+      λ l m k h t. reaches-dropped _ _ _ _ _ _ _ l m _ _ _ (w .2) (omega (arith, if1· .left, loop· .inv .4)) (omega (arith, if2· .left)) (w .1) (loop· .inv .0) (sym (role-due· .ensures) ∙ w .0) (loop· .inv .7 l m k h t),
+    )
+
+trace-requires : tie.Need-trace-requires Inv-loop μ-loop
+trace-requires c κs =
+    let point-due· = c .before .before .before .before .point-due in
+    let whole· = c .before .before .whole in
+    point-due· .ensures _ (whole· .given .1) .0
+
+put-figure-requires : tie.Need-put-figure-requires Inv-loop μ-loop
+put-figure-requires c κs =
+    let if1· = c .before .before .before .before .before .before .before .before .before .before .if1 in
+    let loop· = c .before .before .before .before .before .before .before .before .before .before .before .before .loop in
+    omega (arith, if1· .left, loop· .inv .4)
+
+add-place-3 : tie.Need-add-place-3 Inv-loop μ-loop
+add-place-3 c =
+    let point-due· = c .before .before .before .before .before .before .before .before .before .before .before .point-due in
+    let whole· = c .before .before .before .before .before .before .before .before .before .whole in
+    let fits· = c .before .before .before .before .before .before .before .before .before .before .before .before .before .before .before .before .before .before .before .before .before .before .before .before .before .before .before .fits in
+    let w = point-due· .ensures _ (whole· .given .1) in
+    omega (arith, w .1, fits· .to)
+
+loop-less-3 : tie.Need-loop-less-3 Inv-loop μ-loop
+loop-less-3 c =
+    let point-due· = c .before .before .before .before .before .before .before .before .before .before .before .point-due in
+    let whole· = c .before .before .before .before .before .before .before .before .before .whole in
+    let args· = c .before .before .before .before .before .before .before .before .before .before .before .before .before .before .before .before .before .before .before .before .before .before .before .before .before .before .before .args in
+    let pre· = c .before .before .before .before .before .before .before .before .before .before .before .before .before .before .before .before .before .before .before .before .before .before .before .before .before .before .before .pre in
+    let w = point-due· .ensures _ (whole· .given .1) in
+    omega (arith, w .1, multi-range (args· .look .domain) (pre· .1) .0)
+
+loop-again-3 : tie.Need-loop-again-3 Inv-loop μ-loop
+loop-again-3 c =
+    let args· = c .before .before .before .before .before .before .before .before .before .before .before .before .before .before .before .before .before .before .before .before .before .before .before .before .before .before .before .args in
+    let pre· = c .before .before .before .before .before .before .before .before .before .before .before .before .before .before .before .before .before .before .before .before .before .before .before .before .before .before .before .pre in
+    let point-due· = c .before .before .before .before .before .before .before .before .before .before .before .point-due in
+    let whole· = c .before .before .before .before .before .before .before .before .before .whole in
+    let loop· = c .before .before .before .before .before .before .before .before .before .before .before .before .before .before .before .before .before .loop in
+    let with-due· = c .with-due in
+    let trace· = c .before .before .before .before .before .before .trace in
+    let put-figure· = c .before .before .before .before .put-figure in
+    let if1· = c .before .before .before .before .before .before .before .before .before .before .before .before .before .before .before .if1 in
+    let role-due· = c .before .before .before .before .before .before .before .before .before .before .before .before .before .before .role-due in
+    let target· = c .before .before .before .before .before .before .before .target in
+    let r = multi-range (args· .look .domain) (pre· .1) in
+    let w = point-due· .ensures _ (whole· .given .1) in (
+      loop· .inv .0 ∙ ap rowOf (sym (ap (λ (x : Command). x .opcode) (with-due· .ensures) ∙ trace· .ensures .1)),
+      omega (arith, loop· .inv .1),
+      w .1,
+      put-figure· .kept .1 .1 .1 .0 ∙ loop· .inv .3,
+      omega (arith, if1· .left, loop· .inv .4, put-figure· .ensures .1, put-figure· .kept .1 .1 .1 .0),
+      loop· .inv .5,
+      after-moved (args· .pen) (loop· .place + args· .look .domain .multi - args· .from) (trace· .result .point) (omega (arith, loop· .inv .1, r .0)),
+      λ l m k h t. reaches-point _ _ _ _ _ _ _ l m _ _ _ _ _ _ _ _ _ _ _ _ _ (loop· .inv .1) (pre· .0) (loop· .inv .5) (loop· .inv .6) (loop· .inv .0) (role-due· .ensures) (w .0) (omega (arith, if1· .left, loop· .inv .4)) h (r .0) (r .1) (omega (arith, w .1, pre· .4)) t (w .2) (λ bs a e. trace· .ensures .0 l _ bs (target· .ensures .0) (target· .ensures .1) e a m) (put-figure· .ensures .0 l k) (with-due· .ensures) (loop· .inv .7 l m k h t),
+    )
+
+sub-after-5 : tie.Need-sub-after-5 Inv-loop μ-loop
+sub-after-5 c =
+    let loop· = c .before .loop in
+    loop· .inv .1
+
+same-length-5 : tie.Need-same-length-5 Inv-loop μ-loop
+same-length-5 c =
+    let loop· = c .before .before .loop in
+    loop· .inv .3
+
+returns-5 : tie.Need-returns-5 Inv-loop μ-loop
+returns-5 c =
+    let args· = c .before .before .before .before .before .before .before .before .before .before .before .before .args in
+    let head-of· = c .before .before .before .before .before .before .before .before .before .head-of in
+    let loop· = c .before .before .loop in
+    let after5· = c .after5 in
+    let k : Inks _ _ (args· .look) = record { head = head-of· .ensures; size = refl } in
+    reaches-end _ _ _ _ _ _ _ _ _ _ (args· .look) _ _ _ (loop· .inv .1) (loop· .inv .2) (after5· .ensures) (λ m. loop· .inv .7 (args· .look) m k refl refl)
+
+pub run-commands-spec : {M : Type 1} → statement M
+run-commands-spec =
+    tie.close
+    (tie.spec
+    Inv-loop
+    μ-loop
+    (λ c κs. search needs)
+    (λ c. search needs)
+    (λ c κs. search needs)
+    (λ c κs. search needs)
+    loop-holds
+    sub-if1
+    sub-after
+    (λ c κs. search needs)
+    same-length
+    returns
+    (λ c κs. search needs)
+    shared-slice-read-byte
+    (λ c κs. search needs)
+    sub-after-2
+    (λ c κs. search needs)
+    same-length-2
+    returns-2
+    (λ c κs. search needs)
+    (λ c. search needs)
+    array-copy-out-next
+    open-next-requires
+    add-place
+    leaves-strokes-requires
+    sub-after-3
+    (λ c κs. search needs)
+    same-length-3
+    returns-3
+    loop-less
+    loop-again
+    point-due-requires
+    (λ c. search needs)
+    sub-drops
+    (λ c κs. search needs)
+    sub-after-4
+    (λ c κs. search needs)
+    same-length-4
+    returns-4
+    add-place-2
+    loop-less-2
+    loop-again-2
+    (λ c. search needs)
+    (λ c κs. search needs)
+    trace-requires
+    put-figure-requires
+    (λ c κs. search needs)
+    add-place-3
+    loop-less-3
+    loop-again-3
+    sub-after-5
+    (λ c κs. search needs)
+    same-length-5
+    returns-5)

@@ -1,0 +1,185 @@
+// A run of the PDI set: points that come whole, opcodes and recorded controls.
+pub mod opening;
+pub mod points;
+
+use crate::opening::open_next;
+use crate::points::point_due;
+use operands::whole::Whole;
+use operands::whole::are_data;
+use operands::whole::three_bytes;
+use drawing::data::resting;
+use drawing::data::role_due;
+use drawing::data::with_due;
+use figures::finishing::is_foreground;
+use figures::tracing::put_figure;
+use figures::tracing::target;
+use figures::tracing::trace;
+use records::head_of;
+use rules::Command;
+use rules::Look;
+use rules::Pen;
+use rules::Point;
+use rules::ROOM_FOR_STEP;
+use rules::Role;
+use drawing_runs::Ran;
+use drawing_runs::strokes::is_stroke;
+use tables::controls::is_recorded;
+use tables::opcodes::row_of;
+use tables::opcodes::row_place;
+use tables::opcodes::rows;
+ghost use mathlib.Core.Path.{_≡_};
+ghost use mathlib.Core.Bool.{true, false};
+ghost use mathlib.Core.List.{List};
+ghost use Prim.Native.Nat.{ℕ, _+_, _≤_};
+ghost use lib.ListN.{length};
+ghost use Rattle.rules.specs.declared.Role.{Role};
+ghost use Rattle.rules.specs.declared.Set.{Set};
+ghost use Rattle.rules.specs.Ranges.{domainFits, commandFits};
+ghost use Rattle.figures.specs.Tracing.{isForeground};
+ghost use Rattle.drawing_runs.specs.Run.{ActsAs, Run, standing};
+ghost use Rattle.drawing_runs.specs.Strokes.{penAfter};
+ghost use Rattle.command_runs.specs.Asked.{asked};
+
+// Whether four points of three bytes come at a place.
+fn is_long(bytes: &[u8], place: usize, to: usize) -> bool
+    requires { ⌜ (place ≤ to) × (to ≤ length (now bytes)) ⌝ }
+{
+    if to - place < 12 {
+        return false;
+    }
+    are_data(three_bytes(bytes, place))
+        && are_data(three_bytes(bytes, place + 3))
+        && are_data(three_bytes(bytes, place + 6))
+        && are_data(three_bytes(bytes, place + 9))
+}
+
+// Whether the points of the command just opened are left to the loop of strokes.
+fn leaves_strokes(opcode: u8, bytes: &[u8], place: usize, to: usize) -> bool
+    requires { ⌜ (place ≤ to) × (to ≤ length (now bytes)) ⌝ }
+{
+    is_stroke(opcode) && is_long(bytes, place, to)
+}
+
+// Whether a byte is an opcode or a recorded control, and the open command leaves the look.
+fn opens(role: Role, byte: u8) -> bool
+    ensures { λ r. ⌜ (r ≡ true → (isForeground role ≡ false) × ActsAs Set.Pdi byte (asked byte)) ⌝ }
+{
+    if is_foreground(role) {
+        return false;
+    }
+    if byte < 32 {
+        return is_recorded(byte);
+    }
+    byte < 64
+}
+
+// Whether data is dropped after so many bytes; a step before it has left no operand begun.
+fn drops(role: Role, byte: u8, count: usize) -> bool
+    ensures { λ r. ⌜ (r ≡ true → (role ≡ Role.Dropped) × (byte ≤ 127) × (1 ≤ count)) ⌝ }
+{
+    if count == 0 {
+        return false;
+    }
+    if 127 < byte {
+        return false;
+    }
+    if let Role::Dropped = role {
+        return true;
+    }
+    false
+}
+
+// The pen after so many bytes, the last point given.
+fn pen_after(count: usize, pen: Pen, point: Point) -> Pen
+    ensures { λ r. ⌜ r ≡ penAfter count pen point ⌝ }
+{
+    if count == 0 {
+        return pen;
+    }
+    resting(point)
+}
+
+// What so many bytes leave, the pen lent and the last point given.
+fn after(count: usize, at: usize, pen: Pen, point: Point, command: Command) -> Ran
+    ensures { λ r. ⌜ r ≡ record { count = count; at = at; pen = penAfter count pen point; command = command } ⌝ }
+{
+    Ran {
+        count,
+        at,
+        pen: pen_after(count, pen, point),
+        command,
+    }
+}
+
+// As many bytes as are whole points, opcodes, recorded controls and dropped data; the ordinary step does the rest.
+pub fn run_commands(
+    pen: Pen,
+    command: Command,
+    look: Look,
+    bytes: &[u8],
+    from: usize,
+    to: usize,
+    out: &mut [u8],
+    at: usize,
+) -> Ran
+    requires { ⌜ (pen .operand .count ≡ 0) × (domainFits (look .domain) ≡ true) × (commandFits command ≡ true) × (from ≤ to)
+        × (to ≤ length (now bytes)) × (at ≤ length (now out)) ⌝ }
+    ensures ran { λ r. ⌜ ((m : List ℕ)
+        → Run Set.Pdi (now (bytes .entry)) from (standing pen command look m at (now (out .entry))) (r .count)
+        (standing (r .pen) (r .command) look m (r .at) (now (out .exit)))) ⌝ }
+    ensures most { λ r. ⌜ from + r .count ≤ to ⌝ }
+{
+    let ink = head_of(look, 0, 0, 0, 0);
+    let domain = look.domain;
+    let pel = domain.pel;
+    let n = domain.multi as usize;
+    let rows = rows();
+    let mut row = row_of(command.opcode);
+    let mut place = from;
+    let mut at = at;
+    let mut point = pen.point;
+    let mut command = command;
+    while place < to {
+        if out.len() - at < ROOM_FOR_STEP {
+            return after(place - from, at, pen, point, command);
+        }
+        let role = role_due(row, command);
+        let byte = bytes[place];
+        if byte < 64 {
+            if !opens(role, byte) {
+                return after(place - from, at, pen, point, command);
+            }
+            let next = rows[row_place(byte)];
+            let opened = open_next(byte, next, row, point, command, ink, pel, out, at);
+            at = opened.at;
+            point = opened.point;
+            command = opened.command;
+            row = next;
+            place += 1;
+            if leaves_strokes(byte, bytes, place, to) {
+                return after(place - from, at, pen, point, command);
+            }
+            continue;
+        }
+        let whole = point_due(role, command.vertices, n, domain.three, bytes, place, to);
+        match whole {
+            Whole::Cut => {
+                if !drops(role, byte, place - from) {
+                    return after(place - from, at, pen, point, command);
+                }
+                place += 1;
+                continue;
+            }
+            Whole::Whole(v) => {
+                let aimed = target(role, point, v);
+                let traced = trace(role, row, aimed.outside, aimed.point, point, command);
+                at = put_figure(traced.figure, ink, pel, out, at);
+                point = traced.point;
+                command = with_due(row, traced.command);
+                place += n;
+                continue;
+            }
+        }
+    }
+    after(place - from, at, pen, point, command)
+}

@@ -1,0 +1,34 @@
+-- Runs of characters
+use Prim.Native.Nat.{ℕ, zero, suc, _+_, _*_}
+use mathlib.Core.List.{List}
+use Rattle.rules.specs.declared.Command.{Command}
+use Rattle.rules.specs.declared.Look.{Look}
+use Rattle.rules.specs.declared.Operand.{Operand}
+use Rattle.rules.specs.declared.Pen.{Pen}
+use Rattle.rules.specs.declared.Repertoire.{Repertoire}
+use Rattle.rules.specs.declared.Repertoire.the-variants.{Primary, Supplementary, Mosaic, Drcs}
+use Rattle.rules.specs.Numbers.{origin}
+use Rattle.rules.specs.Drawing.{noOperand, newCommand}
+use Rattle.figures.specs.Carried.{Carried}
+use Rattle.drawing_runs.specs.Run.{standing}
+
+-- "7/15 of primary or supplementary does nothing"
+abbrev pub lastCharacter : Repertoire → ℕ
+lastCharacter Primary = 126
+lastCharacter Supplementary = 126
+lastCharacter Mosaic = 127
+lastCharacter Drcs = 127
+
+-- What so many characters leave of an operand and of a command: the first closes
+abbrev pub operandAfter : ℕ → Operand → Operand
+operandAfter zero o = o
+operandAfter (suc n) o = noOperand
+
+abbrev pub commandAfter : ℕ → Command → Command
+commandAfter zero c = c
+commandAfter (suc n) c = newCommand 0 origin
+
+-- A state after so many characters, their records written from a place on
+abbrev pub typed : ℕ → Pen → Command → Look → List ℕ → ℕ → List ℕ → Carried
+typed n p c l m at out =
+    standing (record { point = p .point; operand = operandAfter n (p .operand) }) (commandAfter n c) l m (at + 40 * n) out

@@ -1,0 +1,24 @@
+use Rattle.rules.specs.Store.{bodyByte}
+use borrow.Author.Needs.{needs}
+use Rattle.store.proofs.cells.body_byte.Statement.{statement}
+use Rattle.store.proofs.cells.body_byte.Tie as tie
+
+mul-result : tie.Need-mul-result
+mul-result c = search needs
+
+add-result : tie.Need-add-result
+add-result c = search needs
+
+add-result-2 : tie.Need-add-result-2
+add-result-2 c = search needs
+
+shared-slice-read-result : tie.Need-shared-slice-read-result
+shared-slice-read-result c = search needs
+
+returns : tie.Need-returns
+unfolding bodyByte
+returns c = search needs
+
+pub body-byte-spec : {M : Type 1} → statement M
+body-byte-spec =
+    tie.close (tie.spec mul-result add-result add-result-2 shared-slice-read-result returns)

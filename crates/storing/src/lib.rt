@@ -1,4 +1,0 @@
-// Storing the bytes of a macro definition: one, an ESC and another, or a run of them.
-pub mod definitions;
-pub mod escapes;
-pub mod filling;

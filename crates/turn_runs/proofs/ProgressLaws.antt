@@ -1,0 +1,310 @@
+-- Runs over the parts that the code holds
+use Prim.Native.Nat.{ℕ, zero, suc, _+_, _-_, _≤_, _<_}
+use native.Mathlib.Nat.{add-zero}
+use native.Mathlib.Omega.{arith}
+use mathlib.Core.Path.{_≡_, refl, sym, ap, subst}
+use mathlib.Core.Bool.{Bool, true, false}
+use mathlib.Core.List.{List, []}
+use lib.ListN.{length, drop, getD, set, length-drop}
+use lib.Seq.{set-getD}
+use lib.Dec.{ltb}
+use borrow.Author.Tests.{ltb-true, ltb-false}
+use Rattle.rules.specs.declared.Command.{Command}
+use Rattle.rules.specs.declared.Cursor.{Cursor}
+use Rattle.rules.specs.declared.Drawing.{Drawing}
+use Rattle.rules.specs.declared.Look.{Look}
+use Rattle.rules.specs.declared.Pen.{Pen}
+use Rattle.rules.specs.declared.Point.{Point}
+use Rattle.rules.specs.declared.Set.{Set}
+use Rattle.rules.specs.declared.Set.the-variants.{Macro}
+use Rattle.rules.specs.declared.Sets.{Sets}
+use Rattle.rules.specs.declared.Waiting.{Waiting}
+use Rattle.rules.specs.declared.Waiting.the-variants.{Nothing}
+use Rattle.rules.specs.declared.Status.the-variants.{Running}
+use Rattle.rules.specs.Numbers.{mostBytes, roomForStep}
+use Rattle.rules.specs.Bodies.{bodyAt, depthLeft, unspent}
+use Rattle.rules.specs.Coding.{setOf}
+use Rattle.rules.specs.Ranges.{domainFits, colourFits, commandFits, drawingFits}
+use Rattle.rules.specs.Drawing.{noOperand, freshDrawing}
+use Rattle.rules.specs.Record.{bytesOfAll}
+use Rattle.rules.specs.Step.{State, stateOf, removeSpent, Source, FromBody, FromPiece}
+use Rattle.rules.specs.Reading.{consumedBy}
+use Rattle.rules.proofs.Bools.{and-left, and-right}
+use Rattle.rules.proofs.Steps.{remove-twice, remove-later}
+use Rattle.rules.proofs.Turns.{turn-advances}
+use Rattle.records.proofs.Writes.{overwrite-length}
+use Rattle.store.specs.Stretch.{Gives}
+use Rattle.bodies.specs.Stack.{bodiesOf}
+use Rattle.bodies.specs.Calls.{CallsEmpty}
+use Rattle.figures.specs.Carried.{Carried, drawingOf}
+use Rattle.drawing_runs.specs.Run.{Run, standing, none as run-none, more as run-more}
+use Rattle.drawing_runs.specs.Strokes.{penAfter}
+use Rattle.coding.specs.View.{codingOf}
+use Rattle.coding_runs.specs.Idle.{Idle, coded}
+use Rattle.coding_runs.specs.declared.Idled.{Idled}
+use Rattle.turns.specs.declared.progress.Progress.{Progress}
+use Rattle.turns.specs.Progress.{atDepth, placeAfter, ranOn, codedOn}
+use Rattle.turns.specs.View.{stateAt, NoneSpent}
+use Rattle.turn_runs.specs.Walk.{Place, placed, placeAt, Walk, none, removed, step, Stands, sourceOf, placesAfter, Lies, Most}
+use Rattle.turn_runs.proofs.RunLaws.{run-walk, piece-feeds, body-feeds, idle-walk, calls-walk}
+
+-- A walk after a walk
+pub walk-then : {piece : List ℕ} {x y z : Place} → Walk piece x y → Walk piece y z → Walk piece x z
+walk-then a none = a
+walk-then a (removed b) = removed (walk-then a b)
+walk-then a (step b m e) = step (walk-then a b) m e
+
+-- Spent bodies removed
+
+spent-removed : (budget : ℕ) (p : Progress) (cells places firsts : List ℕ) (g : Drawing) (st : List ℕ) (d : ℕ) → d ≡ depthLeft st (bodiesOf (p .depth) cells places) (p .depth)
+    → stateAt budget (atDepth d p) cells places firsts g st ≡ removeSpent (stateAt budget p cells places firsts g st)
+unfolding removeSpent unspent
+spent-removed budget p cells places firsts g st d e = rw e
+
+pub walk-removed : (budget : ℕ) (p : Progress) (cells places firsts : List ℕ) (g : Drawing) (st piece out : List ℕ)
+    → (d : ℕ) → d ≡ depthLeft st (bodiesOf (p .depth) cells places) (p .depth) → (q : Progress) → q ≡ atDepth d p
+    → Walk piece (placeAt budget p cells places firsts g st out) (placeAt budget q cells places firsts g st out)
+walk-removed budget p cells places firsts g st piece out d e q f =
+    rw f
+    (subst (λ (w : State). Walk piece (placeAt budget p cells places firsts g st out) (placed w (p .at) (p .written) out))
+    (sym (spent-removed budget p cells places firsts g st d e)) (removed none))
+
+pub removed-once : (p : Progress) (cells places st : List ℕ) (d : ℕ) → d ≡ depthLeft st (bodiesOf (p .depth) cells places) (p .depth) → NoneSpent d cells places st
+unfolding removeSpent unspent
+removed-once p cells places st d e = rw e (ap (λ (w : State). w .session .bodies .depth) (remove-twice (stateAt 0 p cells places [] freshDrawing st)))
+
+pub none-runs : (d : ℕ) (cells places st : List ℕ) → d ≡ 0 → NoneSpent d cells places st
+unfolding depthLeft
+none-runs d cells places st e = rw e
+
+-- A walk leads from where a reading may stand to where it may stand
+consumed-within : (s : Source) (n : ℕ) (l : List ℕ) → n ≤ length l → consumedBy s 0 ≤ length (drop n l) → consumedBy s n ≤ length l
+consumed-within FromBody n l h k = h
+consumed-within FromPiece n l h k = let e = length-drop n l in omega arith
+
+pub walk-stands : {piece : List ℕ} {x y : Place} → Walk piece x y → Stands piece x → Stands piece y
+walk-stands none h = h
+walk-stands (removed {y} a) h =
+    let j = walk-stands a h in
+    record { sound = remove-later (y .state) .valid (j .sound); on = j .on; within = j .within }
+walk-stands {piece} (step {y} {n} {t} a b e) h =
+    let j = walk-stands a h in
+    let f = turn-advances (y .state) (drop (y .at) piece) (j .sound) (ltb (length (y .output) - y .written) roomForStep) e in
+    let bs = bytesOfAll (t .records) in
+    let few = f .few in
+    let free = ltb-false (length (y .output) - y .written) roomForStep (f .free) in
+    let room : y .written + length bs ≤ length (y .output) = omega arith in
+    let long = overwrite-length bs (y .output) (y .written) room in
+    record {
+      sound = f .later .valid (j .sound);
+      on = consumed-within (t .source) (y .at) piece (j .on) (f .some);
+      within = omega (arith, long, room);
+    }
+
+-- No step is taken back along a walk
+pub walk-steps : {piece : List ℕ} {x y : Place} → Walk piece x y → Stands piece x → x .state .session .steps ≤ y .state .session .steps
+unfolding removeSpent
+walk-steps none h = omega arith
+walk-steps (removed a) h = walk-steps a h
+walk-steps {piece} (step {y} a b e) h =
+    let k = walk-steps a h in
+    let n = turn-advances (y .state) (drop (y .at) piece) (walk-stands a h .sound) (ltb (length (y .output) - y .written) roomForStep) e .later .steps in
+    omega arith
+
+-- The bytes read of a cell, with its place
+counted : (place from end to n : ℕ) → (from < end → place + end ≤ from + mostBytes) → to ≤ end → from + n ≤ to → place < 256 → (place + n < 256) × (n < 256)
+counted place from end to n h l m k = by (ltb from end) refl
+  where
+    by : (t : Bool) → ltb from end ≡ t → (place + n < 256) × (n < 256)
+    by true e = let g = h (ltb-true from end e) in (omega arith, omega arith)
+    by false e = let g = ltb-false from end e in (omega arith, omega arith)
+
+-- Where bytes lie
+pub source-piece : (d : ℕ) (piece st : List ℕ) → d ≡ 0 → piece ≡ sourceOf d piece st
+source-piece d piece st e = rw e
+
+pub source-body : (d : ℕ) (piece st : List ℕ) → (d ≡ 0 → ⊥) → st ≡ sourceOf d piece st
+source-body zero piece st h = absurd (h refl)
+source-body (suc i) piece st h = refl
+
+pub lies-piece : {d at : ℕ} {cells places st piece : List ℕ} → d ≡ 0 → at ≤ length piece → Lies d at cells places st piece at (length piece)
+lies-piece e h =
+    record {
+      order = h;
+      within = rw e (omega arith);
+      start = λ _. refl;
+      passes = λ n l i f. absurd (omega (arith, e, f));
+      gives = λ i f. absurd (omega (arith, e, f));
+    }
+
+pub lies-body : (d : ℕ) {at : ℕ} {cells places st piece : List ℕ} {from to : ℕ} (x : Cursor) → (d ≡ 0 → ⊥) → x ≡ bodyAt (bodiesOf 0 cells places) (d - 1) → d - 1 < length places → x .place < 256
+    → ((k : ℕ) → from + k < to → Gives st x from k) → from ≤ to → to ≤ length st → (from < to → x .place + to ≤ from + mostBytes)
+    → Lies d at cells places st piece from to
+lies-body zero x h e wide byte g o w p = absurd (h refl)
+lies-body (suc i) {at} {cells} {places} {st} {piece} {from} {to} x h e wide byte g o w p =
+    let one : suc i - 1 ≡ i = omega arith in
+    let here : x ≡ bodyAt (bodiesOf (suc i) cells places) i = rw one at e in
+    let place : x .place ≡ getD places i 0 = ap (λ (y : Cursor). y .place) here in
+    record {
+      order = o;
+      within = w;
+      start = λ f. absurd (omega (arith, f));
+      passes = λ n l j f. subst (λ (m : ℕ). (m < length places) × (getD places m 0 + n < 256) × (n < 256)) (same j f) (room n place one (counted (x .place) from to to n p (omega arith) l byte));
+      gives = λ j f k l. subst (λ (m : ℕ). Gives st (bodyAt (bodiesOf (suc m) cells places) m) from k) (same j f) (subst (λ (y : Cursor). Gives st y from k) here (g k l));
+    }
+  where
+    same : (j : ℕ) → suc i ≡ suc j → i ≡ j
+    same j f = omega (arith, f)
+
+    room : (n : ℕ) → x .place ≡ getD places i 0 → suc i - 1 ≡ i → (x .place + n < 256) × (n < 256) → (i < length places) × (getD places i 0 + n < 256) × (n < 256)
+    room n q one r = (omega (arith, wide), omega (arith, q, r .0), r .1)
+
+pub lies-less : {d at : ℕ} {cells places st piece : List ℕ} {from to : ℕ} (end : ℕ) → Lies d at cells places st piece from to → from ≤ end → end ≤ to → Lies d at cells places st piece from end
+lies-less end h l m =
+    record {
+      order = l;
+      within = omega (arith, h .within);
+      start = h .start;
+      passes = λ n k. h .passes n (omega arith);
+      gives = λ i e k n. h .gives i e k (omega arith);
+    }
+
+lies-most : (d : ℕ) {at : ℕ} {cells places st piece : List ℕ} {from to : ℕ} (n : ℕ) → Lies d at cells places st piece from to → from + n ≤ to → at ≤ length piece → placeAfter d n at ≤ length piece
+lies-most zero n h l m = omega (arith, h .start refl, h .within)
+lies-most (suc i) n h l m = m
+
+pub run-most : (n budget : ℕ) (p : Progress) {cells places st piece : List ℕ} {from to : ℕ} → Lies (p .depth) (p .at) cells places st piece from to → from + n ≤ to → to - from ≤ budget - p .steps
+    → p .at ≤ length piece → budget ≤ 4294967295 → p .steps ≤ 4294967295 → Most n budget p piece
+run-most n budget p h l few on b s = (omega arith, lies-most (p .depth) n h l on, omega arith)
+
+-- A cell read on
+pub depth-body : (d : ℕ) → (d ≡ 0 → ⊥) → d ≡ suc (d - 1)
+depth-body d h = omega (arith, h)
+
+pub past-piece : (d n : ℕ) (places : List ℕ) → d ≡ 0 → places ≡ placesAfter d n places
+past-piece d n places e = rw e
+
+pub past-body : (d n : ℕ) (places : List ℕ) → (d ≡ 0 → ⊥) → set places (d - 1) (getD places (d - 1) 0 + n) ≡ placesAfter d n places
+past-body zero n places h = absurd (h refl)
+past-body (suc i) n places h = let one : suc i - 1 ≡ i = omega arith in rw one
+
+pub past-none : (d n : ℕ) (places : List ℕ) → n ≡ 0 → placesAfter d n places ≡ places
+past-none zero n places e = refl
+past-none (suc i) n places e = rw (e, add-zero (getD places i 0)) (set-getD places i 0)
+
+-- A run of no bytes
+run-zero : {s : Set} {bytes : List ℕ} {from n : ℕ} {x y : Carried} → Run s bytes from x n y → n ≡ 0 → x ≡ y
+run-zero run-none e = refl
+run-zero (run-more r acts room drew) e = absurd (omega (arith, e))
+
+pub run-still : {s : Set} {bytes : List ℕ} {from n at at₁ : ℕ} {pen pen₁ : Pen} {command command₁ : Command} {look : Look} {map out out₁ : List ℕ}
+    → Run s bytes from (standing pen command look map at out) n (standing pen₁ command₁ look map at₁ out₁) → n ≡ 0
+    → (at₁ ≡ at) × (pen₁ ≡ pen) × (command₁ ≡ command) × (out₁ ≡ out)
+run-still r e =
+    let q = sym (run-zero r e) in
+    (ap (λ (c : Carried). c .at) q, ap (λ (c : Carried). c .drawing .pen) q, ap (λ (c : Carried). c .drawing .command) q, ap (λ (c : Carried). c .output) q)
+
+-- Bytes drawn
+module _ (budget : ℕ) (p : Progress) (cells places firsts : List ℕ) (pen : Pen) (command : Command) (look : Look) (map st piece out : List ℕ)
+    (s : Set) (bytes : List ℕ) (n at : ℕ) (pen₁ : Pen) (command₁ : Command) (out₁ : List ℕ) (from to : ℕ) (waits : p .waiting ≡ Nothing)
+    (used : s ≡ setOf (p .sets .used) (p .sets)) (source : bytes ≡ sourceOf (p .depth) piece st)
+    (run : Run s bytes from (standing pen command look map (p .written) out) n (standing pen₁ command₁ look map at out₁))
+    (most : from + n ≤ to) (few : to - from ≤ budget - p .steps)
+  where
+    abbrev here : Place
+    here = placeAt budget p cells places firsts (drawingOf pen command look map) st out
+
+    abbrev RunFrom : ℕ → Type 0
+    RunFrom d = Run (setOf (p .sets .used) (p .sets)) (sourceOf d piece st) from (standing pen command look map (p .written) out) n (standing pen₁ command₁ look map at out₁)
+
+    abbrev there : ℕ → Place
+    there d =
+        placed (stateOf budget (p .steps + n) Running (bodiesOf d cells (placesAfter d n places)) (codingOf (p .sets) (p .waiting) firsts) (drawingOf pen₁ command₁ look map) st)
+        (placeAfter d n (p .at)) at out₁
+
+    walk-piece : RunFrom 0 → Lies 0 (p .at) cells places st piece from to
+        → Walk piece (placed (stateOf budget (p .steps) Running (bodiesOf 0 cells places) (codingOf (p .sets) (p .waiting) firsts) (drawingOf pen command look map) st) (p .at) (p .written) out) (there 0)
+    walk-piece r h =
+        let on : from + n ≤ length piece = omega (arith, h .within) in
+        let w = run-walk (piece-feeds piece from n cells places st on) budget (p .steps) (codingOf (p .sets) (p .waiting) firsts) waits (omega arith) r (omega arith) in
+        rw (h .start refl, add-zero (p .steps), add-zero (p .at)) at w
+
+    walk-body : (i : ℕ) → RunFrom (suc i) → Lies (suc i) (p .at) cells places st piece from to
+        → Walk piece (placed (stateOf budget (p .steps) Running (bodiesOf (suc i) cells places) (codingOf (p .sets) (p .waiting) firsts) (drawingOf pen command look map) st) (p .at) (p .written) out) (there (suc i))
+    walk-body i r h =
+        let x = bodyAt (bodiesOf (suc i) cells places) i in
+        let w = run-walk (body-feeds piece (p .at) from n i cells places st x refl (h .passes 0 (omega (arith, h .order)) i refl .0) (λ k l. h .gives i refl k (omega arith))) budget (p .steps) (codingOf (p .sets) (p .waiting) firsts) waits (omega arith) r (omega arith) in
+        let same : set places i (getD places i 0 + 0) ≡ places = rw (add-zero (getD places i 0)) (set-getD places i 0) in
+        rw (add-zero (p .steps), same) at w
+
+    pub walk-run : Lies (p .depth) (p .at) cells places st piece from to → (places₁ : List ℕ) → places₁ ≡ placesAfter (p .depth) n places
+        → Walk piece here (placeAt budget (ranOn n at p) cells places₁ firsts (drawingOf pen₁ command₁ look map) st out₁)
+    walk-run h places₁ q =
+        rw q
+        (by (p .depth)
+        (subst (λ (x : List ℕ). Run (setOf (p .sets .used) (p .sets)) x from (standing pen command look map (p .written) out) n (standing pen₁ command₁ look map at out₁)) source
+        (subst (λ (x : Set). Run x bytes from (standing pen command look map (p .written) out) n (standing pen₁ command₁ look map at out₁)) used run)) h)
+      where
+        by : (d : ℕ) → RunFrom d → Lies d (p .at) cells places st piece from to
+            → Walk piece (placed (stateOf budget (p .steps) Running (bodiesOf d cells places) (codingOf (p .sets) (p .waiting) firsts) (drawingOf pen command look map) st) (p .at) (p .written) out) (there d)
+        by zero r l = walk-piece r l
+        by (suc i) r l = walk-body i r l
+
+-- Bytes that write no record
+module _ (budget : ℕ) (p : Progress) (cells places firsts : List ℕ) (g : Drawing) (st piece out : List ℕ)
+    (d : p .depth ≡ 0) (to : ℕ) (l : to ≤ length piece) (few : to - p .at ≤ budget - p .steps) (room : roomForStep ≤ length out - p .written)
+  where
+    pub walk-idle : (idled : Idled) (firsts₁ st₁ : List ℕ)
+        → Idle piece (p .at) (coded (codingOf (p .sets) (p .waiting) firsts) st) (idled .count) (coded (codingOf (idled .sets) (idled .waiting) firsts₁) st₁)
+        → p .at + idled .count ≤ to → (r : Progress) → r ≡ codedOn (idled .count) 0 (idled .sets) (idled .waiting) p
+        → Walk piece (placeAt budget p cells places firsts g st out) (placeAt budget r cells places firsts₁ g st₁ out)
+    walk-idle idled firsts₁ st₁ i m r e =
+        let w = idle-walk piece (p .at) (p .written) budget (p .steps) cells places g out (idled .count) (omega arith) (omega arith) room i (omega arith) in
+        rw (e, d) (rw (add-zero (p .steps), add-zero (p .at)) at w)
+
+    pub walk-calls : (n : ℕ) (cells₁ places₁ : List ℕ) → (n ≡ 0 → ⊥) → p .waiting ≡ Nothing → setOf (p .sets .used) (p .sets) ≡ Macro → CallsEmpty firsts piece (p .at) n
+        → p .at + n ≤ to → (cells₁ ≡ set cells 0 0) × (places₁ ≡ set places 0 0) → (r : Progress) → r ≡ codedOn n 1 (p .sets) (p .waiting) p
+        → Walk piece (placeAt budget p cells places firsts g st out) (placeAt budget r cells₁ places₁ firsts g st out)
+    walk-calls zero cells₁ places₁ h x s f m q r e = absurd (h refl)
+    walk-calls (suc n) cells₁ places₁ h x s f m q r e =
+        let w = calls-walk piece (p .at) (p .written) budget (p .steps) cells places g out (suc n) (omega arith) (omega arith) room (codingOf (p .sets) (p .waiting) firsts) st x s (suc n) f (omega arith) in
+        rw (e, d, q .0, q .1) (rw (add-zero (p .steps), add-zero (p .at)) at w)
+
+-- What the tests before a feed say of a drawing state
+pub valid-domain : (g : Drawing) → drawingFits g ≡ true → domainFits (g .look .domain) ≡ true
+unfolding drawingFits
+valid-domain g h = and-left (domainFits (g .look .domain)) _ h
+
+pub valid-command : (g : Drawing) → drawingFits g ≡ true → commandFits (g .command) ≡ true
+unfolding drawingFits
+valid-command g h = and-left (commandFits (g .command)) _ (and-right (colourFits (g .look .colour)) _ (and-right (domainFits (g .look .domain)) _ h))
+
+-- At most the steps to an end of the piece
+pub coded-most : (p : Progress) (to n d : ℕ) (s : Sets) (x : Waiting) (r : Progress) → r ≡ codedOn n d s x p → p .at + n ≤ to → r .steps - p .steps ≤ to - p .at
+coded-most p to n d s x r e h = rw e (omega arith)
+
+-- A run of some bytes is some steps
+pub coded-more : (p : Progress) (n d : ℕ) (s : Sets) (x : Waiting) (r : Progress) → r ≡ codedOn n d s x p → (n ≡ 0 → ⊥) → r .steps ≤ p .steps → ⊥
+coded-more p n d s x r e h l = let m : p .steps + n ≤ p .steps = rw e at l in h (omega (arith, m))
+
+-- The place of the piece after a run
+pub after-same : (d at : ℕ) → placeAfter d 0 at ≡ at
+after-same zero at = add-zero at
+after-same (suc i) at = refl
+
+-- The pen after strokes rests at their last point
+pub pen-rests : (pen : Pen) (n : ℕ) (q : Point) → 0 < n → record { point = q; operand = noOperand } ≡ penAfter n pen q
+pen-rests pen zero q h = absurd (omega (arith, h))
+pen-rests pen (suc n) q h = refl
+
+-- No byte is drawn
+
+pub none-walk : (budget : ℕ) (p : Progress) (cells places firsts : List ℕ) (pen : Pen) (command : Command) (look : Look) (map st piece out : List ℕ)
+    → (n written : ℕ) (pen₁ : Pen) (command₁ : Command) → n ≡ 0 → written ≡ p .written → pen₁ ≡ pen → command₁ ≡ command
+    → Walk piece (placeAt budget p cells places firsts (drawingOf pen command look map) st out)
+    (placeAt budget (ranOn n written p) cells places firsts (drawingOf pen₁ command₁ look map) st out)
+none-walk budget p cells places firsts pen command look map st piece out n written pen₁ command₁ e f g h =
+    rw (e, f, g, h, after-same (p .depth) (p .at), add-zero (p .steps)) none
+
+pub none-most : (n budget : ℕ) (p : Progress) (piece : List ℕ) → n ≡ 0 → p .at ≤ length piece → p .steps ≤ 4294967295 → Most n budget p piece
+none-most n budget p piece e h l = rw (e, after-same (p .depth) (p .at)) (omega arith, h, omega arith)

@@ -1,0 +1,62 @@
+// As many steps at once as can be taken.
+use crate::coded::run_coded;
+use crate::drawn::run_drawn;
+use turns::progress::Reached;
+use turns::progress::after_run;
+ghost use mathlib.Core.Path.{_≡_};
+ghost use mathlib.Core.List.{List};
+ghost use Prim.Native.Nat.{ℕ, _-_, _≤_};
+ghost use Rattle.turns.specs.View.{NoneSpent};
+ghost use Rattle.turn_runs.specs.Walk.{Walk, Stands, reachedAt};
+
+// Spent bodies are removed, then bytes that write no record are read, then bytes that are drawn, as many of each as come. A run may stop
+// early without saying why, since a turn follows.
+pub fn run(
+    reached: Reached,
+    budget: u32,
+    cells: &mut [u8; 8],
+    places: &mut [u8; 8],
+    firsts: &mut [u8; 96],
+    store: &mut [u8],
+    piece: &[u8],
+    out: &mut [u8],
+) -> Reached
+    requires { ⌜ ((map : List ℕ)
+        → Stands (now piece) (reachedAt budget reached (now cells) (now places) (now firsts) map (now store) (now out))) ⌝ }
+    ensures walk { λ r. ⌜ ((map : List ℕ)
+        → Walk (now (piece .entry))
+        (reachedAt budget reached (now (cells .entry)) (now (places .entry)) (now (firsts .entry)) map (now (store .entry))
+        (now (out .entry)))
+        (reachedAt budget r (now (cells .exit)) (now (places .exit)) (now (firsts .exit)) map (now (store .exit))
+        (now (out .exit)))) ⌝ }
+    ensures most { λ r. ⌜ r .progress .steps - reached .progress .steps ≤ budget - reached .progress .steps ⌝ }
+    ensures spent { λ r. ⌜ (r .progress .steps ≤ reached .progress .steps
+        → NoneSpent (r .progress .depth) (now (cells .exit)) (now (places .exit)) (now (store .exit))) ⌝ }
+{
+    let progress = reached.progress;
+    let pen = reached.pen;
+    let command = reached.command;
+    let look = reached.look;
+    let free = out.len() - progress.written;
+    let progress = run_coded(progress, budget, free, cells, places, firsts, store, piece);
+    let ran = run_drawn(
+        progress,
+        pen,
+        command,
+        look,
+        budget,
+        cells,
+        places,
+        store,
+        piece,
+        out,
+    );
+    let pen = ran.pen;
+    let command = ran.command;
+    Reached {
+        progress: after_run(progress, ran.count, ran.at),
+        pen,
+        command,
+        look,
+    }
+}
