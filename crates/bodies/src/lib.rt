@@ -1,12 +1,12 @@
 // The stack of running macro bodies, outermost first, lent as two arrays beside the depth.
 pub mod calls;
 
-use store::cursors::has_left;
-use store::cursors::read_body;
 use rules::Cursor;
 use rules::MOST_BYTES;
 use rules::MOST_DEPTH;
 use rules::Read;
+use store::cursors::has_left;
+use store::cursors::read_body;
 ghost use mathlib.Core.Path.{_≡_};
 ghost use mathlib.Core.List.{List};
 ghost use Prim.Native.Nat.{ℕ, _-_, _<_, _≤_};

@@ -1,9 +1,9 @@
 // Runs of a definition's bytes: ESC 4/0 that opens it, its body, ESC 4/5 that ends it.
+use definitions::filling::fill;
 use rules::Definition;
 use rules::ESC;
 use rules::Sets;
 use rules::Waiting;
-use definitions::filling::fill;
 ghost use lib.ListN.{length, getD};
 ghost use mathlib.Core.Bool.{true};
 ghost use mathlib.Core.List.{List};

@@ -1,9 +1,9 @@
 // Commands closed and opened in a run, with no operand begun.
 use drawing::closing::new_command;
+use drawing::data::role_due;
 use drawing::opening::Opened;
 use drawing::opening::open_at;
 use drawing::opening::put_mark;
-use drawing::data::role_due;
 use figures::finishing::finish;
 use figures::tracing::put_figure;
 use records::Head;

@@ -1,7 +1,7 @@
 // Points that come whole.
+use figures::tracing::is_point;
 use operands::whole::Whole;
 use operands::whole::whole_point;
-use figures::tracing::is_point;
 use rules::Point;
 use rules::Role;
 ghost use mathlib.Core.Path.{_≡_};

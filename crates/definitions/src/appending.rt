@@ -1,4 +1,7 @@
 // The open definition: a byte is stored at the end of its chain.
+use rules::Definition;
+use rules::MOST_BYTES;
+use rules::Refusal;
 use store::cells::count_of;
 use store::cells::good_count;
 use store::cells::next_of;
@@ -6,9 +9,6 @@ use store::cells::set_body_byte;
 use store::cells::set_count;
 use store::cells::set_next;
 use store::names::set_first;
-use rules::Definition;
-use rules::MOST_BYTES;
-use rules::Refusal;
 ghost use lib.Dec.{eqb};
 ghost use mathlib.Core.Path.{_≡_};
 ghost use Rattle.rules.specs.Store.{nextOf, takeCell, linkCell, storeInNew, storeByte};

@@ -1,13 +1,13 @@
 // ESC and another byte of the open definition: both are stored, or neither.
 use crate::appending::StoreAnswer;
 use crate::appending::store_byte;
-use store::cells::count_of;
-use store::cells::good_count;
-use store::cells::next_of;
 use rules::Definition;
 use rules::ESC;
 use rules::MOST_BYTES;
 use rules::Refusal;
+use store::cells::count_of;
+use store::cells::good_count;
+use store::cells::next_of;
 ghost use mathlib.Core.Path.{_≡_};
 ghost use Rattle.rules.specs.Store.{storeEscapeAnd};
 ghost use Rattle.store.specs.Lent.{Sized, IsName};

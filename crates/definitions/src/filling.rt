@@ -1,13 +1,13 @@
 // Runs of bytes of the open definition.
 use crate::appending::StoreAnswer;
 use crate::appending::store_byte;
+use rules::Definition;
+use rules::ESC;
+use rules::MOST_BYTES;
 use store::cells::count_of;
 use store::cells::good_count;
 use store::cells::lay_bytes;
 use store::cells::set_count;
-use rules::Definition;
-use rules::ESC;
-use rules::MOST_BYTES;
 ghost use lib.ListN.{length, getD};
 ghost use mathlib.Core.Bool.{true};
 ghost use mathlib.Core.List.{List};

@@ -14,9 +14,9 @@ use Rattle.rules.specs.Calls.{Terms, freshState, Handed, handed, feed, unread, 
 use Rattle.rules.proofs.Cutting.{join-rests, returned-handed, cutting, fresh-no-steps}
 use Rattle.rules.proofs.CallLaws.{feed-kept}
 use Rattle.rules.proofs.Feeding.{lent-last, feeds-last}
-use Rattle.handing.specs.declared.Fed.{Fed}
-use Rattle.handing.specs.Handing.{handedOf}
-use Rattle.reader.specs.Promises.{Feeds}
+use Rattle.rules.specs.declared.Fed.{Fed}
+use Rattle.rules.specs.Promises.{handedOf}
+use Rattle.rules.specs.Promises.{Feeds}
 use borrow.Rule.Slice.PartMut.{putMid, post-is}
 use Rattle.demands.specs.Cuts.{total, lentOf, fedMore, fedAll, fedCuts, Undivided}
 

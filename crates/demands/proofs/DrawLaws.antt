@@ -27,11 +27,11 @@ use Rattle.rules.proofs.Readings.{full-done, refused-done, refused-full, reads-
 use Rattle.rules.proofs.CallLaws.{end-kept}
 use Rattle.rules.proofs.Demand3.{end-room}
 use Rattle.rules.proofs.Expanding.{expanded}
-use Rattle.handing.specs.declared.Fed.{Fed}
-use Rattle.handing.specs.Handing.{handedOf}
-use Rattle.reader.specs.declared.open.Opened.{Opened}
-use Rattle.reader.specs.declared.end.Ended.{Ended}
-use Rattle.reader.specs.Promises.{Opens, Ends}
+use Rattle.rules.specs.declared.Fed.{Fed}
+use Rattle.rules.specs.Promises.{handedOf}
+use Rattle.rules.specs.declared.Opened.{Opened}
+use Rattle.rules.specs.declared.Ended.{Ended}
+use Rattle.rules.specs.Promises.{Opens, Ends}
 use Rattle.demands.specs.Cuts.{lentOf, fedCuts, Undivided}
 use Rattle.demands.specs.Pictures.{endMore, endAfter, endDone, drawnCuts, Draws, DrawnAlike}
 

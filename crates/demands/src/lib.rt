@@ -1,9 +1,9 @@
 // A page read in pieces of any lengths, into buffers of any sizes: demand 3 as the contract of functions that make the calls.
-use handing::Fed;
 use reader::end::end;
 use reader::feed::feed_from;
 use reader::open::open;
 use rules::Answer;
+use rules::Fed;
 use rules::Session;
 ghost use mathlib.Core.Path.{_≡_};
 ghost use Prim.Native.Nat.{_+_, _≤_, min};
@@ -13,7 +13,7 @@ ghost use Rattle.rules.specs.declared.Answer.the-variants.{Done};
 ghost use Rattle.rules.specs.Calls.{withBudget};
 ghost use Rattle.rules.specs.Expansion.{expansion};
 ghost use Rattle.rules.specs.Step.{stateLent};
-ghost use Rattle.handing.specs.Handing.{handedOf};
+ghost use Rattle.rules.specs.Promises.{handedOf};
 ghost use Rattle.demands.specs.Cuts.{lentOf, fedMore, fedCuts, Undivided};
 ghost use Rattle.demands.specs.Pictures.{endMore, endDone, drawnCuts, Draws, DrawnAlike};
 

@@ -1,12 +1,12 @@
 // The drawing layer: an action becomes records and a change of the drawing state, or a refusal.
 pub mod closing;
-pub mod opening;
 pub mod data;
+pub mod opening;
 pub mod ranges;
 
 use crate::closing::close;
-use crate::opening::open_at;
 use crate::data::data_byte;
+use crate::opening::open_at;
 use figures::Drawn;
 use figures::answers::moved;
 use figures::answers::no_record;

@@ -7,7 +7,6 @@ use listing::least;
 use reader::number::number_of;
 use rules::RECORD_SIZE;
 use rules::STORE_SIZE;
-ghost use mathlib.Core.Path.{_≡_};
 ghost use Prim.Native.Nat.{_≤_, _<_};
 ghost use lib.ListN.{length};
 ghost use Rattle.io.specs.Counts.{Counts};

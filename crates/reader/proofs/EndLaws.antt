@@ -5,8 +5,8 @@ use mathlib.Core.Path.{_≡_, refl, sym, ap, _∙_}
 use mathlib.Core.Bool.{true, false, _&&_, and-false}
 use mathlib.Core.List.{List}
 use lib.ListN.{length}
-use lib.Dec.{ltb, leb}
-use borrow.Author.Tests.{ne-eqb, lt-ltb, le-ltb, leb-true}
+use lib.Dec.{ltb}
+use borrow.Author.Tests.{ne-eqb, lt-ltb, le-ltb}
 use Rattle.rules.specs.declared.Action.the-variants.{Close}
 use Rattle.rules.specs.declared.Refusal.{Refusal}
 use Rattle.rules.specs.declared.Refusal.the-variants.{TooManyVertices, EndInside, BodyBytesLeft}
@@ -15,24 +15,24 @@ use Rattle.rules.specs.declared.Verdict.{Verdict}
 use Rattle.rules.specs.declared.Verdict.the-variants.{Passes, Fails}
 use Rattle.rules.specs.declared.Status.the-variants.{Ended, Stopped}
 use Rattle.rules.specs.declared.Answer.the-variants.{Done, Full, Refused}
-use Rattle.rules.specs.Numbers.{mostDepth, roomForStep}
+use Rattle.rules.specs.Numbers.{roomForStep}
 use Rattle.rules.specs.Record.{bytesOfAll}
 use Rattle.rules.specs.Bodies.{bytesLeft}
 use Rattle.rules.specs.Coding.{unfinished}
 use Rattle.rules.specs.Drawing.{Outcome, NotDrawn, Draw, act, isOpen, closed}
 use Rattle.rules.specs.Step.{State, stateLent}
-use Rattle.rules.specs.Ranges.{placesFit, bodiesFit}
 use Rattle.rules.specs.Reading.{Reading, rests, halts, tests, Valid}
 use Rattle.rules.specs.Calls.{handed, ended, endChecks, ending, end}
-use Rattle.rules.proofs.Bools.{true-false, false-true, and-left}
+use Rattle.rules.proofs.Bools.{true-false, false-true}
 use Rattle.rules.proofs.RecordCount.{closed-close}
 use Rattle.rules.proofs.Steps.{tests-valid, valid-tests}
 use Rattle.records.proofs.Writes.{overwrite-start}
 use Rattle.figures.specs.declared.Drawn.{Drawn}
 use Rattle.figures.specs.Carried.{Carried, carry, drawingOf, carriedOf}
 use Rattle.drawing.proofs.Refusals.{OnlyVertices}
-use Rattle.reader.specs.declared.end.Ended.{Ended as End}
-use Rattle.reader.specs.Ending.{endingOf, sessionWith}
+use Rattle.rules.specs.declared.Ended.{Ended as End}
+use Rattle.rules.specs.Promises.{endingOf}
+use Rattle.reader.specs.Ending.{sessionWith}
 
 -- From the answer of closing: refused, the session is stopped with 9 and the output left; else the session is ended
 pub stopped-so : (o : Outcome) (s : Session) (st out left m : List ℕ) (x : Drawn) (r : End) → OnlyVertices o
@@ -129,14 +129,6 @@ pub close-answer : (s : Session) (st out left : List ℕ) (r : End) → Valid (s
     → endingOf r st left ≡ handed (ending (length out) (stateLent s st)) out
 close-answer s st out left r v b u f h =
     h ∙ ap (λ (x : Reading). handed x out) (sym (closes-so s st (length out) v b u (rw (le-ltb (length out) roomForStep f) (and-false (isOpen (s .drawing))))))
-
--- What the callees ask
-
-pub valid-depth : (w : State) → Valid w → w .session .bodies .depth ≤ mostDepth
-unfolding bodiesFit
-valid-depth w v =
-    let y = w .session .bodies in
-    leb-true (y .depth) mostDepth (and-left (leb (y .depth) mostDepth) (placesFit (y .places)) (v .bodies))
 
 -- What is lent fails a test and is handed back, or passes them and is ended
 module _ (s : Session) (st out : List ℕ) (v : Verdict) (e : v ≡ tests (stateLent s st)) where

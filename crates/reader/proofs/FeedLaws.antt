@@ -18,9 +18,9 @@ use Rattle.rules.specs.Step.{State, stateLent}
 use Rattle.rules.specs.Calls.{handed, feed, unread}
 use Rattle.rules.proofs.Steps.{tests-valid}
 use Rattle.rules.proofs.Readings.{reads-failed, reads-passed}
-use Rattle.handing.specs.declared.Fed.{Fed}
-use Rattle.handing.specs.Handing.{handedOf}
-use Rattle.reader.specs.Promises.{Feeds}
+use Rattle.rules.specs.declared.Fed.{Fed}
+use Rattle.rules.specs.Promises.{handedOf}
+use Rattle.rules.specs.Promises.{Feeds}
 
 -- Feed: what is lent fails a test and is handed back, or passes them and is read
 module _ (s : Session) (st piece out : List ℕ) (v : Verdict) (e : v ≡ tests (stateLent s st)) where

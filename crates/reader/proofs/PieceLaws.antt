@@ -14,8 +14,8 @@ use Rattle.rules.specs.Calls.{Handed, feed, unread, Lent, feeds}
 use Rattle.rules.proofs.CallLaws.{feed-kept}
 use Rattle.rules.proofs.Cutting.{cutting}
 use Rattle.rules.proofs.Feeding.{full-goes-on, full-leaves-less, done-leaves-less}
-use Rattle.handing.specs.declared.Fed.{Fed}
-use Rattle.reader.specs.Promises.{Feeds}
+use Rattle.rules.specs.declared.Fed.{Fed}
+use Rattle.rules.specs.Promises.{Feeds}
 use Rattle.reader.specs.PieceRead.{NextAfter, PieceRead}
 
 -- After calls that began in the state w and left v, the piece unread from a position on: its reading from there ends as that of the

@@ -7,13 +7,13 @@ use Rattle.rules.specs.declared.Session.{Session}
 use Rattle.rules.specs.declared.Shade.{Shade}
 use Rattle.rules.specs.Step.{State}
 use Rattle.rules.specs.Calls.{numberOf, Terms, Opening, openPage, Handed, feed, end, colour, shadeNumber, shadeValues}
-use Rattle.handing.specs.declared.Fed.{Fed}
-use Rattle.handing.specs.Handing.{handedOf}
-use Rattle.reader.specs.declared.open.Opened.{Opened}
-use Rattle.reader.specs.declared.end.Ended.{Ended}
-use Rattle.reader.specs.Answers.{openingOf}
-use Rattle.reader.specs.Ending.{endingOf}
-use Rattle.reader.specs.Promises.{Opens, Feeds, Ends, Shades}
+use Rattle.rules.specs.declared.Fed.{Fed}
+use Rattle.rules.specs.Promises.{handedOf}
+use Rattle.rules.specs.declared.Opened.{Opened}
+use Rattle.rules.specs.declared.Ended.{Ended}
+use Rattle.rules.specs.Promises.{openingOf}
+use Rattle.rules.specs.Promises.{endingOf}
+use Rattle.rules.specs.Promises.{Opens, Feeds, Ends, Shades}
 
 pub opens : {terms : Terms} {store left : List ℕ} {r : Opened} → openingOf r left ≡ openPage terms store → Opens terms store r left
 opens e = record { number = ap (λ (o : Opening). numberOf (o .answer)) e; same = e }

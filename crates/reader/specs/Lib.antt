@@ -1,4 +1,2 @@
-pub mod Answers
 pub mod Ending
-pub mod Promises
 pub mod PieceRead

@@ -1,7 +1,7 @@
 // The colour map.
 use rules::Session;
 use rules::Shade;
-ghost use Rattle.reader.specs.Promises.{Shades};
+ghost use Rattle.rules.specs.Promises.{Shades};
 
 // G, R and B of a map address.
 pub fn colour(session: Session, address: u8) -> Shade

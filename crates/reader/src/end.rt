@@ -2,9 +2,11 @@
 use bodies::bytes_left;
 use drawing::act;
 use drawing::closing::new_command;
+use ranges::verdict;
 use rules::Action;
 use rules::Answer;
 use rules::Drawing;
+use rules::Ended;
 use rules::ORIGIN;
 use rules::Operand;
 use rules::Pen;
@@ -14,7 +16,6 @@ use rules::Session;
 use rules::Status;
 use rules::Verdict;
 use tables::escapes::unfinished;
-use ranges::verdict;
 ghost use mathlib.Core.Path.{_≡_};
 ghost use mathlib.Core.List.{List};
 ghost use Prim.Native.Nat.{ℕ, _≤_};
@@ -26,14 +27,9 @@ ghost use Rattle.rules.specs.Ranges.{drawingFits};
 ghost use Rattle.rules.specs.Calls.{handed, ended, ending};
 ghost use Rattle.rules.specs.Step.{stateLent};
 ghost use Rattle.rules.specs.Reading.{Valid};
-ghost use Rattle.reader.specs.Ending.{endingOf, sessionWith};
-ghost use Rattle.reader.specs.Promises.{Ends};
-
-pub struct Ended {
-    pub answer: Answer,
-    pub written: usize,
-    pub session: Session,
-}
+ghost use Rattle.rules.specs.Promises.{endingOf};
+ghost use Rattle.reader.specs.Ending.{sessionWith};
+ghost use Rattle.rules.specs.Promises.{Ends};
 
 fn with_parts(session: Session, status: Status, drawing: Drawing) -> Session
     ensures { λ r. ⌜ r ≡ sessionWith status drawing session ⌝ }

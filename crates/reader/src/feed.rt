@@ -1,14 +1,14 @@
 // Feed: the tests of what is lent, then a reading of the piece.
 use crate::unread::unread_from;
-use handing::Fed;
+use ranges::verdict;
 use reading::read;
 use rules::Answer;
+use rules::Fed;
 use rules::Session;
 use rules::Verdict;
-use ranges::verdict;
 ghost use Rattle.rules.specs.Calls.{unread};
 ghost use Rattle.rules.specs.Step.{stateLent};
-ghost use Rattle.reader.specs.Promises.{Feeds};
+ghost use Rattle.rules.specs.Promises.{Feeds};
 
 // Reads a piece as far as the output has room: consumed counts its bytes read, written those of the records. A piece that is not
 // read whole is lent again from there on, with the session that is handed back.

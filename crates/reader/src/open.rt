@@ -1,5 +1,4 @@
 // Opening a page.
-use store::opening::initialise;
 use rules::Answer;
 use rules::Bodies;
 use rules::Coding;
@@ -12,6 +11,7 @@ use rules::Element;
 use rules::Look;
 use rules::Mode;
 use rules::ORIGIN;
+use rules::Opened;
 use rules::Operand;
 use rules::Pen;
 use rules::Refusal;
@@ -22,15 +22,11 @@ use rules::Set;
 use rules::Sets;
 use rules::Status;
 use rules::Waiting;
+use store::opening::initialise;
 ghost use mathlib.Core.Path.{_≡_};
 ghost use Rattle.rules.specs.Drawing.{freshDrawing};
 ghost use Rattle.rules.specs.Calls.{withBudget, freshSession};
-ghost use Rattle.reader.specs.Promises.{Opens};
-
-pub struct Opened {
-    pub answer: Answer,
-    pub session: Session,
-}
+ghost use Rattle.rules.specs.Promises.{Opens};
 
 fn fresh_look() -> Look
     ensures { λ r. ⌜ r ≡ freshDrawing .look ⌝ }

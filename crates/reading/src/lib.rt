@@ -1,11 +1,11 @@
 // A reading of a piece, turn by turn and run by run, as far as the output has room.
-use turn_runs::run::run;
-use handing::Fed;
-use handing::finish;
-use handing::start;
 use rules::Answer;
+use rules::Fed;
 use rules::Refusal;
 use rules::Session;
+use turn_runs::run::run;
+use turns::handing::finish;
+use turns::handing::start;
 use turns::progress::after_drawing;
 use turns::progress::with_progress;
 use turns::step::Course;
@@ -17,7 +17,7 @@ ghost use lib.ListN.{length};
 ghost use Rattle.rules.specs.Reading.{Room, reading, Valid};
 ghost use Rattle.rules.specs.Calls.{handed};
 ghost use Rattle.rules.specs.Step.{stateLent};
-ghost use Rattle.handing.specs.Handing.{handedOf};
+ghost use Rattle.rules.specs.Promises.{handedOf};
 
 // The turns of a reading, until one ends it. Before each turn a run takes as many bytes at once as it can. Whatever is half read, an
 // operand, a sequence or a body, lies in the session, so that the next call goes on.

@@ -58,5 +58,8 @@ pub use Rattle.rules.specs.declared.Verdict.{Verdict}
 pub use Rattle.rules.specs.declared.Verdict.the-variants.{Passes, Fails}
 pub use Rattle.rules.specs.declared.Answer.{Answer}
 pub use Rattle.rules.specs.declared.Answer.the-variants.{Done, Full, Refused}
+pub use Rattle.rules.specs.declared.Opened.{Opened}
+pub use Rattle.rules.specs.declared.Fed.{Fed}
+pub use Rattle.rules.specs.declared.Ended.{Ended as Ended·handed}
 pub use Rattle.rules.specs.declared.Shade.{Shade}
 pub use Rattle.rules.specs.declared.Shade.the-variants.{Of, NoAddress}

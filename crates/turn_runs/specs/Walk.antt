@@ -5,8 +5,6 @@ use mathlib.Core.Path.{_≡_}
 use lib.ListN.{length, drop, getD, set}
 use lib.Dec.{ltb}
 use Rattle.rules.specs.declared.Drawing.{Drawing}
-use Rattle.rules.specs.declared.Sets.{Sets}
-use Rattle.rules.specs.declared.Waiting.{Waiting}
 use Rattle.rules.specs.Numbers.{roomForStep}
 use Rattle.rules.specs.Bodies.{bodyAt}
 use Rattle.rules.specs.Record.{bytesOfAll}

@@ -3,7 +3,6 @@ use crate::coded::run_coded;
 use crate::drawn::run_drawn;
 use turns::progress::Reached;
 use turns::progress::after_run;
-ghost use mathlib.Core.Path.{_≡_};
 ghost use mathlib.Core.List.{List};
 ghost use Prim.Native.Nat.{ℕ, _-_, _≤_};
 ghost use Rattle.turns.specs.View.{NoneSpent};

@@ -3,14 +3,13 @@ use Prim.Native.Nat.{ℕ, zero, suc, _+_, _-_, _≤_, _<_}
 use native.Mathlib.Nat.{add-zero}
 use native.Mathlib.Numerals.{add-one, sub-one}
 use native.Mathlib.Omega.{arith}
-use mathlib.Core.Path.{_≡_, refl, sym, ap, _∙_, subst}
+use mathlib.Core.Path.{_≡_, refl, sym, ap, _∙_}
 use mathlib.Core.Bool.{Bool, true, false}
 use mathlib.Core.List.{List, [], _∷_}
 use lib.ListN.{length, drop, getD, drop-of-length-le}
 use lib.Seq.{drop-cons, getD-drop}
 use lib.Dec.{ltb, leb}
-use borrow.Author.Tests.{lt-ltb, le-ltb, leb-true, leb-false, eqb-true}
-use Rattle.rules.specs.declared.Action.{Action}
+use borrow.Author.Tests.{lt-ltb, le-ltb, leb-true, leb-false}
 use Rattle.rules.specs.declared.Answer.the-variants.{Done, Full, Refused}
 use Rattle.rules.specs.declared.Bodies.{Bodies}
 use Rattle.rules.specs.declared.Cursor.{Cursor}
@@ -18,16 +17,14 @@ use Rattle.rules.specs.declared.Drawing.{Drawing}
 use Rattle.rules.specs.declared.Read.{Read}
 use Rattle.rules.specs.declared.Read.the-variants.{Byte, BadCell}
 use Rattle.rules.specs.declared.Refusal.the-variants.{BudgetUsed, OutOfRange}
-use Rattle.rules.specs.Numbers.{storeSize, mostDepth, roomForStep}
+use Rattle.rules.specs.Numbers.{roomForStep}
 use Rattle.rules.specs.Bodies.{bodyAt, withBody, readBody, unspent}
-use Rattle.rules.specs.Ranges.{placesFit, bodiesFit, waitingFits}
 use Rattle.rules.specs.Step.{State, withBodies, removeSpent, Source, FromBody, Sought, NothingLeft, Spoilt, Found, fromBody, seekAt, seek, Move, Stops, Goes, interpret}
 use Rattle.rules.specs.Turn.{Turn, Ends, stopped, onMove, onSought, turn}
-use Rattle.rules.specs.Reading.{consumedBy, Valid}
-use Rattle.rules.proofs.Bools.{true-false, false-true, and-left}
+use Rattle.rules.specs.Reading.{consumedBy}
+use Rattle.rules.proofs.Bools.{true-false, false-true}
 use Rattle.bodies.specs.Stack.{bodiesOf}
-use Rattle.turns.specs.declared.step.Course.{Course}
-use Rattle.turns.specs.declared.step.Course.the-variants.{GoesOn, Ends as Ends·course, Draws}
+use Rattle.turns.specs.declared.step.Course.the-variants.{Ends as Ends·course}
 use Rattle.turns.specs.declared.progress.Progress.{Progress}
 use Rattle.turns.specs.declared.step.Turned.{Turned}
 use Rattle.turns.specs.Leaving.{nothingLeft, nextByte, sourceAt, advanced, interpreted, Left, leaves}
@@ -105,14 +102,6 @@ move-leaves : (n : ℕ) (m : Move) (b : ℕ) (s : Source) (bs : List ℕ) (w : S
 unfolding onMove leaves
 move-leaves n (Stops r) b s bs w at written out = refl
 move-leaves n (Goes u rs) b s bs w at written out = refl
-
--- What the tests before a feed say of a state
-pub valid-store : {w : State} → Valid w → length (w .store) ≡ storeSize
-valid-store {w} v = eqb-true (length (w .store)) storeSize (v .size)
-
-pub valid-depth : {w : State} → Valid w → w .session .bodies .depth ≤ mostDepth
-unfolding bodiesFit
-valid-depth {w} v = let y = w .session .bodies in leb-true (y .depth) mostDepth (and-left (leb (y .depth) mostDepth) (placesFit (y .places)) (v .bodies))
 
 abbrev nowhere : Cursor
 nowhere = record { cell = 0; place = 0 }

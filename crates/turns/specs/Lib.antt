@@ -1,3 +1,4 @@
 pub mod Leaving
 pub mod Progress
 pub mod View
+pub mod Handing

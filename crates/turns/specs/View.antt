@@ -1,5 +1,5 @@
 -- The state of a reading as the code holds it: in parts, with the drawing state and the arrays beside them
-use Prim.Native.Nat.{ℕ, _+_, _≤_, _<_}
+use Prim.Native.Nat.{ℕ, _≤_, _<_}
 use mathlib.Core.Bool.{Bool, true, false}
 use mathlib.Core.Path.{_≡_}
 use mathlib.Core.List.{List}
@@ -7,8 +7,6 @@ use Rattle.rules.specs.declared.Bodies.{Bodies}
 use Rattle.rules.specs.declared.Coding.{Coding}
 use Rattle.rules.specs.declared.Cursor.{Cursor}
 use Rattle.rules.specs.declared.Drawing.{Drawing}
-use Rattle.rules.specs.declared.Sets.{Sets}
-use Rattle.rules.specs.declared.Waiting.{Waiting}
 use Rattle.rules.specs.declared.Session.{Session}
 use Rattle.rules.specs.declared.Status.{Status}
 use Rattle.rules.specs.declared.Status.the-variants.{Running, Stopped}

@@ -1,4 +1,3 @@
-use Rattle.rules.specs.Coding.{setOf}
 use borrow.Author.Needs.{needs}
 use Rattle.coding.proofs.set_read.Statement.{statement}
 use Rattle.coding.proofs.set_read.Tie as tie

@@ -1,6 +1,6 @@
 use denote.Ref.{now}
 use mathlib.Core.Path.{_∙_}
-use Rattle.handing.specs.Handing.{handedOf}
+use Rattle.rules.specs.Promises.{handedOf}
 use Rattle.demands.specs.Pictures.{endAfter}
 use Rattle.demands.proofs.DrawLaws.{end-told}
 use borrow.Author.Needs.{needs}

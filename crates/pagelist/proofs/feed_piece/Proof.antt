@@ -1,6 +1,6 @@
 use borrow.Author.Needs.{needs}
 use native.Mathlib.Omega.{arith}
-use mathlib.Core.Path.{_≡_, refl, ap}
+use mathlib.Core.Path.{refl, ap}
 use Rattle.rules.specs.Reading.{stepsLeft}
 use Rattle.rules.specs.Step.{stateLent}
 use Rattle.reader.proofs.PieceLaws.{PieceUnread, piece-first, piece-within, piece-on, piece-less, piece-read}

@@ -1,14 +1,14 @@
 use denote.Ref.{now}
 use borrow.Author.Needs.{needs}
 use native.Mathlib.Omega.{arith}
-use mathlib.Core.Path.{_≡_, refl, sym, ap, _∙_}
+use mathlib.Core.Path.{refl, sym, ap, _∙_}
 use Prim.Native.Nat.{_-_}
 use Rattle.figures.specs.Carried.{drawingOf}
 use Rattle.turns.specs.declared.progress.Reached.{Reached}
 use Rattle.turns.specs.View.{stateAt}
-use Rattle.turns.proofs.TurnLaws.{valid-store, valid-depth}
+use Rattle.rules.proofs.Steps.{valid-store, valid-depth}
 use Rattle.turn_runs.proofs.ProgressLaws.{walk-steps}
-use Rattle.reading.proofs.ReadLaws.{loop-first, loop-on, loop-ends, loop-draws, loop-refused, drawn-due, drawn-room, stands-any}
+use Rattle.reading.proofs.ReadLaws.{loop-first, loop-on, loop-ends, loop-draws, loop-refused, drawn-room, stands-any}
 use Rattle.reading.proofs.WalkLaws.{walk-keeps}
 use Rattle.reading.proofs.Whole.{Kept}
 use Rattle.reading.proofs.read.Statement.{statement}

@@ -1,6 +1,6 @@
 use mathlib.Core.Path.{sym, _∙_}
-use borrow.Author.Tests.{eqb-true}
-use Rattle.reader.proofs.EndLaws.{left-answer, inside-answer, none-answer, full-answer, close-answer, valid-depth}
+use Rattle.rules.proofs.Steps.{valid-store, valid-depth}
+use Rattle.reader.proofs.EndLaws.{left-answer, inside-answer, none-answer, full-answer, close-answer}
 use borrow.Author.Needs.{needs}
 use Rattle.reader.proofs.end.end_running.Statement.{statement}
 use Rattle.reader.proofs.end.end_running.Tie as tie
@@ -8,7 +8,7 @@ use Rattle.reader.proofs.end.end_running.Tie as tie
 bytes-left-requires : tie.Need-bytes-left-requires
 bytes-left-requires c κs =
     let pre· = c .before .before .before .before .before .before .before .pre in
-    (eqb-true _ _ (pre· .size), valid-depth _ (pre·))
+    (valid-store pre·, valid-depth pre·)
 
 rest-requires : tie.Need-rest-requires
 rest-requires c κs = search needs

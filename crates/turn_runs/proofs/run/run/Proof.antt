@@ -1,11 +1,10 @@
 use denote.Ref.{now}
 use native.Mathlib.Omega.{arith}
-use mathlib.Core.Path.{refl, ap, sym}
+use mathlib.Core.Path.{refl, ap}
 use mathlib.Core.List.{[]}
 use Rattle.turns.specs.declared.progress.Progress.{Progress}
 use Rattle.figures.specs.Carried.{drawingOf}
-use Rattle.turn_runs.specs.Walk.{Walk}
-use Rattle.turns.proofs.TurnLaws.{valid-store, valid-depth}
+use Rattle.rules.proofs.Steps.{valid-store, valid-depth}
 use Rattle.turn_runs.proofs.ProgressLaws.{walk-then, walk-stands, walk-steps, valid-domain, valid-command}
 use borrow.Author.Needs.{needs}
 use Rattle.turn_runs.proofs.run.run.Statement.{statement}

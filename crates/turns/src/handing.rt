@@ -1,25 +1,18 @@
 // Where a reading starts from a session, and what it hands over when it ends.
+use crate::progress::Progress;
+use crate::progress::Reached;
 use rules::Answer;
 use rules::Bodies;
 use rules::Coding;
 use rules::Drawing;
+use rules::Fed;
 use rules::Session;
 use rules::Status;
-use turns::progress::Progress;
-use turns::progress::Reached;
 ghost use mathlib.Core.Path.{_≡_};
 ghost use Rattle.figures.specs.Carried.{drawingOf};
 ghost use Rattle.turns.specs.Progress.{startOf};
 ghost use Rattle.turns.specs.View.{statusAfter, sessionAfter};
-ghost use Rattle.handing.specs.Handing.{fedOf};
-
-// What a reading hands over, beside the store and the output.
-pub struct Fed {
-    pub answer: Answer,
-    pub consumed: usize,
-    pub written: usize,
-    pub session: Session,
-}
+ghost use Rattle.turns.specs.Handing.{fedOf};
 
 // Where a reading starts from a session.
 pub fn start(session: Session) -> Reached

@@ -3,16 +3,34 @@
 use Prim.Native.Nat.{ℕ}
 use mathlib.Core.Path.{_≡_}
 use mathlib.Core.List.{List}
-use Rattle.rules.specs.declared.Session.{Session}
-use Rattle.rules.specs.declared.Shade.{Shade}
-use Rattle.rules.specs.Step.{State}
-use Rattle.rules.specs.Calls.{numberOf, Terms, openPage, feed, end, colour, shadeNumber, shadeValues}
-use Rattle.handing.specs.declared.Fed.{Fed}
-use Rattle.handing.specs.Handing.{handedOf}
-use Rattle.reader.specs.declared.open.Opened.{Opened}
-use Rattle.reader.specs.declared.end.Ended.{Ended}
-use Rattle.reader.specs.Answers.{openingOf}
-use Rattle.reader.specs.Ending.{endingOf}
+use Rattle.rules.specs.Types.{Session, Shade, Opened, Fed, Ended·handed}
+use Rattle.rules.specs.Step.{State, stateLent}
+use Rattle.rules.specs.Calls.{numberOf, Terms, Opening, openPage, Handed, feed, end, colour, shadeNumber, shadeValues}
+
+-- What the calls answer, with the store and the output that they leave
+abbrev pub openingOf : Opened → List ℕ → Opening
+openingOf r st = record { answer = r .answer; state = stateLent (r .session) st }
+
+abbrev pub handedOf : Fed → List ℕ → List ℕ → Handed
+handedOf r st out =
+    record {
+      answer = r .answer;
+      state = stateLent (r .session) st;
+      consumed = r .consumed;
+      written = r .written;
+      output = out;
+    }
+
+-- End consumes nothing and leaves the store
+abbrev pub endingOf : Ended·handed → List ℕ → List ℕ → Handed
+endingOf r st out =
+    record {
+      answer = r .answer;
+      state = stateLent (r .session) st;
+      consumed = 0;
+      written = r .written;
+      output = out;
+    }
 
 -- Open, lent a store; left is the store as it is left
 pub record Opens (terms : Terms) (store : List ℕ) (r : Opened) (left : List ℕ) : Type 0 where
@@ -25,7 +43,7 @@ pub record Feeds (w : State) (piece out : List ℕ) (r : Fed) (left written : Li
   pub same : handedOf r left written ≡ feed w piece out
 
 -- End, lent the session and store w and an output; it only reads the store
-pub record Ends (w : State) (out : List ℕ) (r : Ended) (written : List ℕ) : Type 0 where
+pub record Ends (w : State) (out : List ℕ) (r : Ended·handed) (written : List ℕ) : Type 0 where
   pub number : numberOf (r .answer) ≡ numberOf (end w out .answer)
   pub same : endingOf r (w .store) written ≡ end w out
 

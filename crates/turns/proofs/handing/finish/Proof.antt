@@ -1,6 +1,6 @@
 use borrow.Author.Needs.{needs}
-use Rattle.handing.proofs.finish.Statement.{statement}
-use Rattle.handing.proofs.finish.Tie as tie
+use Rattle.turns.proofs.handing.finish.Statement.{statement}
+use Rattle.turns.proofs.handing.finish.Tie as tie
 
 status-after-requires : tie.Need-status-after-requires
 status-after-requires c κs = search needs
