@@ -7,6 +7,7 @@ use Rattle.bodies.proofs.StackLaws.{left-none, left-here, left-below}
 use Rattle.bodies.proofs.depth_left.Statement.{statement}
 use Rattle.bodies.proofs.depth_left.Tie as tie
 
+-- The bodies from here on are spent
 abbrev Inv-loop : tie.InvT-loop
 Inv-loop store cells places depth left₀ left = (depthLeft store (bodiesOf depth cells places) depth ≡ depthLeft store (bodiesOf depth cells places) left) × (left ≤ depth)
 

@@ -7,6 +7,7 @@ use Rattle.bodies.proofs.StackLaws.{fit-on, fit-not, fit-end}
 use Rattle.bodies.proofs.places_fit.Statement.{statement}
 use Rattle.bodies.proofs.places_fit.Tie as tie
 
+-- The places before this one fit
 abbrev Inv-loop : tie.InvT-loop
 Inv-loop places i₀ i = (placesFit places ≡ placesFit (drop i places)) × (i ≤ length places)
 

@@ -12,6 +12,7 @@ use Rattle.coding_runs.proofs.IdleLaws.{idle-fits, idle-still, idle-rea
 use Rattle.coding_runs.proofs.run_idle.Statement.{statement}
 use Rattle.coding_runs.proofs.run_idle.Tie as tie
 
+-- So many bytes were idle
 abbrev Inv-loop : tie.InvT-loop
 Inv-loop firsts₀ store₀ bytes from to sets₀ waiting₀ count₀ firsts store sets waiting count = (from + count ≤ to) × (length store ≡ 8192) × (Idle bytes from (coded (codingOf sets₀ waiting₀ firsts₀) store₀) count (coded (codingOf sets waiting firsts) store))
 

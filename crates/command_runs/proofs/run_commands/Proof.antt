@@ -6,7 +6,12 @@ use Prim.Native.Nat.{ℕ, _+_, _-_, _≤_}
 use lib.ListN.{length}
 use borrow.Author.Tests.{not-false}
 use Rattle.rules.specs.declared.Command.{Command}
+use Rattle.rules.specs.declared.Domain.{Domain}
 use Rattle.rules.specs.declared.Look.{Look}
+use Rattle.rules.specs.declared.Pen.{Pen}
+use Rattle.rules.specs.declared.Point.{Point}
+use Rattle.rules.specs.declared.Row.{Row}
+use Rattle.records.specs.declared.Head.{Head}
 use Rattle.rules.specs.Drawing.{rowOf}
 use Rattle.drawing_runs.specs.Run.{standing}
 use Rattle.drawing_runs.specs.Strokes.{penAfter}
@@ -16,12 +21,22 @@ use Rattle.command_runs.proofs.PointLaws.{reaches-point}
 use Rattle.command_runs.proofs.run_commands.Statement.{statement}
 use Rattle.command_runs.proofs.run_commands.Tie as tie
 
+-- The row is the open command's, the places are in range, the output keeps its length, the pen lent has room for eight bytes and its point
+-- is known, and the bytes so far are a run
+record Kept (pen : Pen) (bytes : List ℕ) (from to : ℕ) (out₀ : List ℕ) (ink : Head) (domain : Domain) (pel : Point) (n at₀ : ℕ) (command₀ : Command) (out : List ℕ) (row : Row) (place at : ℕ) (point : Point) (command : Command) : Type 0 where
+  own : row ≡ rowOf (command .opcode)
+  begun : from ≤ place
+  within : place ≤ to
+  long : length out ≡ length out₀
+  room : at ≤ length out
+  eight : length (pen .operand .bytes) ≡ 8
+  stands : penAfter (place - from) pen point .point ≡ point
+  runs : (l : Look) (m : List ℕ) → Inks ink pel l → n ≡ l .domain .multi → domain .three ≡ l .domain .three
+      → Reaches bytes from (standing pen command₀ l m at₀ out₀) pen place point command l m at out
+
 abbrev Inv-loop : tie.InvT-loop
 Inv-loop pen bytes from to out₀ at ink domain pel n table row₀ place₀ at₀ point₀ command₀ out row place at′ point command =
-    (row ≡ rowOf (command .opcode)) × (from ≤ place) × (place ≤ to) × (length out ≡ length out₀) × (at′ ≤ length out)
-    × (length (pen .operand .bytes) ≡ 8) × (penAfter (place - from) pen point .point ≡ point)
-    × ((l : Look) (m : List ℕ) → Inks ink pel l → n ≡ l .domain .multi → domain .three ≡ l .domain .three
-    → Reaches bytes from (standing pen command₀ l m at₀ out₀) pen place point command l m at′ out)
+    Kept pen bytes from to out₀ ink domain pel n at₀ command₀ out row place at′ point command
 
 abbrev μ-loop : tie.MeasureT-loop
 μ-loop pen bytes from to out₀ at ink domain pel n table row₀ place₀ at₀ point₀ command₀ out row place at′ point command = to - place
@@ -34,22 +49,22 @@ loop-holds c =
     let pre· = c .before .before .before .before .before .before .before .before .before .pre in
     -- What is told of the array in the pen lent
     let eight = length-unmapped ℕ (args· .pen .operand .bytes) 8 (good· .0 .1 .1 .1 .0 .1 .1 .0 .1 .0 .1) in
-    (row-of· .ensures, omega arith, pre· .3, refl, pre· .5, eight, after-own (args· .pen) (args· .from - args· .from), λ l m k h t. reaches-none _ _ _ _ l m _ _)
+    record { own = row-of· .ensures; begun = omega arith; within = pre· .3; long = refl; room = pre· .5; eight = eight; stands = after-own (args· .pen) (args· .from - args· .from); runs = λ l m k h t. reaches-none _ _ _ _ l m _ _ }
 
 sub-if1 : tie.Need-sub-if1 Inv-loop μ-loop
 sub-if1 c =
     let loop· = c .before .loop in
-    loop· .inv .4
+    loop· .inv .room
 
 sub-after : tie.Need-sub-after Inv-loop μ-loop
 sub-after c =
     let loop· = c .before .before .loop in
-    loop· .inv .1
+    loop· .inv .begun
 
 same-length : tie.Need-same-length Inv-loop μ-loop
 same-length c =
     let loop· = c .before .before .before .loop in
-    loop· .inv .3
+    loop· .inv .long
 
 returns : tie.Need-returns Inv-loop μ-loop
 returns c =
@@ -58,7 +73,7 @@ returns c =
     let loop· = c .before .before .before .loop in
     let after· = c .after in
     let k : Inks _ _ (args· .look) = record { head = head-of· .ensures; size = refl } in
-    reaches-end _ _ _ _ _ _ _ _ _ _ (args· .look) _ _ _ (loop· .inv .1) (loop· .inv .2) (after· .ensures) (λ m. loop· .inv .7 (args· .look) m k refl refl)
+    reaches-end _ _ _ _ _ _ _ _ _ _ (args· .look) _ _ _ (loop· .inv .begun) (loop· .inv .within) (after· .ensures) (λ m. loop· .inv .runs (args· .look) m k refl refl)
 
 shared-slice-read-byte : tie.Need-shared-slice-read-byte Inv-loop μ-loop
 shared-slice-read-byte c =
@@ -69,12 +84,12 @@ shared-slice-read-byte c =
 sub-after-2 : tie.Need-sub-after-2 Inv-loop μ-loop
 sub-after-2 c =
     let loop· = c .before .before .before .before .before .before .before .loop in
-    loop· .inv .1
+    loop· .inv .begun
 
 same-length-2 : tie.Need-same-length-2 Inv-loop μ-loop
 same-length-2 c =
     let loop· = c .before .before .before .before .before .before .before .before .loop in
-    loop· .inv .3
+    loop· .inv .long
 
 returns-2 : tie.Need-returns-2 Inv-loop μ-loop
 returns-2 c =
@@ -83,7 +98,7 @@ returns-2 c =
     let loop· = c .before .before .before .before .before .before .before .before .loop in
     let after2· = c .after2 in
     let k : Inks _ _ (args· .look) = record { head = head-of· .ensures; size = refl } in
-    reaches-end _ _ _ _ _ _ _ _ _ _ (args· .look) _ _ _ (loop· .inv .1) (loop· .inv .2) (after2· .ensures) (λ m. loop· .inv .7 (args· .look) m k refl refl)
+    reaches-end _ _ _ _ _ _ _ _ _ _ (args· .look) _ _ _ (loop· .inv .begun) (loop· .inv .within) (after2· .ensures) (λ m. loop· .inv .runs (args· .look) m k refl refl)
 
 array-copy-out-next : tie.Need-array-copy-out-next Inv-loop μ-loop
 array-copy-out-next c =
@@ -102,7 +117,7 @@ open-next-requires c κs =
     let row-place· = c .before .before .row-place in
     let if2· = c .before .before .before .before .before .if2 in
     let w = opens· .ensures (not-false (opens· .result) (if3· .left)) in
-    (loop· .inv .0, rw (← role-due· .ensures) (w .0), omega (arith, if1· .left, loop· .inv .4), row-next (rows· .ensures) (row-place· .result) _ _ (row-place· .ensures) (if2· .taken))
+    (loop· .inv .own, rw (← role-due· .ensures) (w .0), omega (arith, if1· .left, loop· .inv .room), row-next (rows· .ensures) (row-place· .result) _ _ (row-place· .ensures) (if2· .taken))
 
 add-place : tie.Need-add-place Inv-loop μ-loop
 add-place c =
@@ -119,13 +134,13 @@ leaves-strokes-requires c κs =
 sub-after-3 : tie.Need-sub-after-3 Inv-loop μ-loop
 sub-after-3 c =
     let loop· = c .before .before .before .before .before .before .before .before .before .before .before .before .before .before .before .before .before .loop in
-    omega (arith, loop· .inv .1)
+    omega (arith, loop· .inv .begun)
 
 same-length-3 : tie.Need-same-length-3 Inv-loop μ-loop
 same-length-3 c =
     let open-next· = c .before .before .before .before .before .before .before .open-next in
     let loop· = c .before .before .before .before .before .before .before .before .before .before .before .before .before .before .before .before .before .before .loop in
-    open-next· .kept .1 .1 .1 .1 .1 .1 .1 .0 ∙ loop· .inv .3
+    open-next· .kept .1 .1 .1 .1 .1 .1 .1 .0 ∙ loop· .inv .long
 
 returns-3 : tie.Need-returns-3 Inv-loop μ-loop
 returns-3 c =
@@ -141,7 +156,7 @@ returns-3 c =
     let open-next· = c .before .before .before .before .before .before .before .open-next in
     let k : Inks _ _ (args· .look) = record { head = head-of· .ensures; size = refl } in
     let w = opens· .ensures (not-false (opens· .result) (if3· .left)) in
-    reaches-end _ _ _ _ _ _ _ _ _ _ (args· .look) _ _ _ (omega (arith, loop· .inv .1)) (omega (arith, loop-test· .taken)) (after3· .ensures) (λ m. reaches-opened _ _ _ _ _ _ _ (args· .look) m _ _ _ _ _ _ _ (loop· .inv .1) (pre· .0) (loop· .inv .6) (omega (arith, if1· .left, loop· .inv .4)) (w .1) (λ o z. open-next· .ensures .0 (args· .look) o m k z) (loop· .inv .7 (args· .look) m k refl refl))
+    reaches-end _ _ _ _ _ _ _ _ _ _ (args· .look) _ _ _ (omega (arith, loop· .inv .begun)) (omega (arith, loop-test· .taken)) (after3· .ensures) (λ m. reaches-opened _ _ _ _ _ _ _ (args· .look) m _ _ _ _ _ _ _ (loop· .inv .begun) (pre· .0) (loop· .inv .stands) (omega (arith, if1· .left, loop· .inv .room)) (w .1) (λ o z. open-next· .ensures .0 (args· .look) o m k z) (loop· .inv .runs (args· .look) m k refl refl))
 
 loop-less : tie.Need-loop-less Inv-loop μ-loop
 loop-less c =
@@ -158,38 +173,29 @@ loop-again c =
     let if1· = c .before .before .before .before .before .before .before .before .before .before .before .before .before .before .before .if1 in
     let args· = c .before .before .before .before .before .before .before .before .before .before .before .before .before .before .before .before .before .before .before .before .before .before .before .before .before .before .before .args in
     let pre· = c .before .before .before .before .before .before .before .before .before .before .before .before .before .before .before .before .before .before .before .before .before .before .before .before .before .before .before .pre in
-    let w = opens· .ensures (not-false (opens· .result) (if3· .left)) in (
-      open-next· .ensures .1,
-      omega (arith, loop· .inv .1),
-      omega (arith, loop-test· .taken),
-      open-next· .kept .1 .1 .1 .1 .1 .1 .1 .0 ∙ loop· .inv .3,
-      omega (arith, if1· .left, loop· .inv .4, open-next· .ensures .2, open-next· .kept .1 .1 .1 .1 .1 .1 .1 .0),
-      loop· .inv .5,
-      after-moved (args· .pen) (loop· .place + 1 - args· .from) (open-next· .result .point) (omega (arith, loop· .inv .1)),
-      λ l m k h t. reaches-opened _ _ _ _ _ _ _ l m _ _ _ _ _ _ _ (loop· .inv .1) (pre· .0) (loop· .inv .6) (omega (arith, if1· .left, loop· .inv .4)) (w .1) (λ o z. open-next· .ensures .0 l o m k z) (loop· .inv .7 l m k h t),
-    )
+    let w = opens· .ensures (not-false (opens· .result) (if3· .left)) in record { own = open-next· .ensures .1; begun = omega (arith, loop· .inv .begun); within = omega (arith, loop-test· .taken); long = open-next· .kept .1 .1 .1 .1 .1 .1 .1 .0 ∙ loop· .inv .long; room = omega (arith, if1· .left, loop· .inv .room, open-next· .ensures .2, open-next· .kept .1 .1 .1 .1 .1 .1 .1 .0); eight = loop· .inv .eight; stands = after-moved (args· .pen) (loop· .place + 1 - args· .from) (open-next· .result .point) (omega (arith, loop· .inv .begun)); runs = λ l m k h t. reaches-opened _ _ _ _ _ _ _ l m _ _ _ _ _ _ _ (loop· .inv .begun) (pre· .0) (loop· .inv .stands) (omega (arith, if1· .left, loop· .inv .room)) (w .1) (λ o z. open-next· .ensures .0 l o m k z) (loop· .inv .runs l m k h t) }
 
 point-due-requires : tie.Need-point-due-requires Inv-loop μ-loop
 point-due-requires c κs =
     let args· = c .before .before .before .before .before .before .before .before .before .before .before .before .before .before .before .args in
     let pre· = c .before .before .before .before .before .before .before .before .before .before .before .before .before .before .before .pre in
     let loop· = c .before .before .before .before .before .loop in
-    (multi-range (args· .look .domain) (pre· .1) .1, loop· .inv .2, pre· .4)
+    (multi-range (args· .look .domain) (pre· .1) .1, loop· .inv .within, pre· .4)
 
 sub-drops : tie.Need-sub-drops Inv-loop μ-loop
 sub-drops c =
     let loop· = c .before .before .before .before .before .before .before .before .loop in
-    loop· .inv .1
+    loop· .inv .begun
 
 sub-after-4 : tie.Need-sub-after-4 Inv-loop μ-loop
 sub-after-4 c =
     let loop· = c .before .before .before .before .before .before .before .before .before .before .loop in
-    loop· .inv .1
+    loop· .inv .begun
 
 same-length-4 : tie.Need-same-length-4 Inv-loop μ-loop
 same-length-4 c =
     let loop· = c .before .before .before .before .before .before .before .before .before .before .before .loop in
-    loop· .inv .3
+    loop· .inv .long
 
 returns-4 : tie.Need-returns-4 Inv-loop μ-loop
 returns-4 c =
@@ -198,7 +204,7 @@ returns-4 c =
     let loop· = c .before .before .before .before .before .before .before .before .before .before .before .loop in
     let after4· = c .after4 in
     let k : Inks _ _ (args· .look) = record { head = head-of· .ensures; size = refl } in
-    reaches-end _ _ _ _ _ _ _ _ _ _ (args· .look) _ _ _ (loop· .inv .1) (loop· .inv .2) (after4· .ensures) (λ m. loop· .inv .7 (args· .look) m k refl refl)
+    reaches-end _ _ _ _ _ _ _ _ _ _ (args· .look) _ _ _ (loop· .inv .begun) (loop· .inv .within) (after4· .ensures) (λ m. loop· .inv .runs (args· .look) m k refl refl)
 
 add-place-2 : tie.Need-add-place-2 Inv-loop μ-loop
 add-place-2 c =
@@ -221,16 +227,7 @@ loop-again-2 c =
     let if1· = c .before .before .before .before .before .before .before .before .if1 in
     let if2· = c .before .before .before .before .before .if2 in
     let role-due· = c .before .before .before .before .before .before .before .role-due in
-    let w = drops· .ensures (not-false (drops· .result) (if5· .left)) in (
-      loop· .inv .0,
-      omega (arith, loop· .inv .1),
-      omega (arith, loop-test· .taken),
-      loop· .inv .3,
-      loop· .inv .4,
-      loop· .inv .5,
-      after-moved (args· .pen) (loop· .place + 1 - args· .from) (loop· .point) (omega (arith, loop· .inv .1)),
-      λ l m k h t. reaches-dropped _ _ _ _ _ _ _ l m _ _ _ (w .2) (omega (arith, if1· .left, loop· .inv .4)) (omega (arith, if2· .left)) (w .1) (loop· .inv .0) (sym (role-due· .ensures) ∙ w .0) (loop· .inv .7 l m k h t),
-    )
+    let w = drops· .ensures (not-false (drops· .result) (if5· .left)) in record { own = loop· .inv .own; begun = omega (arith, loop· .inv .begun); within = omega (arith, loop-test· .taken); long = loop· .inv .long; room = loop· .inv .room; eight = loop· .inv .eight; stands = after-moved (args· .pen) (loop· .place + 1 - args· .from) (loop· .point) (omega (arith, loop· .inv .begun)); runs = λ l m k h t. reaches-dropped _ _ _ _ _ _ _ l m _ _ _ (w .2) (omega (arith, if1· .left, loop· .inv .room)) (omega (arith, if2· .left)) (w .1) (loop· .inv .own) (sym (role-due· .ensures) ∙ w .0) (loop· .inv .runs l m k h t) }
 
 trace-requires : tie.Need-trace-requires Inv-loop μ-loop
 trace-requires c κs =
@@ -242,7 +239,7 @@ put-figure-requires : tie.Need-put-figure-requires Inv-loop μ-loop
 put-figure-requires c κs =
     let if1· = c .before .before .before .before .before .before .before .before .before .before .if1 in
     let loop· = c .before .before .before .before .before .before .before .before .before .before .before .before .loop in
-    omega (arith, if1· .left, loop· .inv .4)
+    omega (arith, if1· .left, loop· .inv .room)
 
 add-place-3 : tie.Need-add-place-3 Inv-loop μ-loop
 add-place-3 c =
@@ -275,26 +272,17 @@ loop-again-3 c =
     let role-due· = c .before .before .before .before .before .before .before .before .before .before .before .before .before .before .role-due in
     let target· = c .before .before .before .before .before .before .before .target in
     let r = multi-range (args· .look .domain) (pre· .1) in
-    let w = point-due· .ensures _ (whole· .given .1) in (
-      loop· .inv .0 ∙ ap rowOf (sym (ap (λ (x : Command). x .opcode) (with-due· .ensures) ∙ trace· .ensures .1)),
-      omega (arith, loop· .inv .1),
-      w .1,
-      put-figure· .kept .1 .1 .1 .0 ∙ loop· .inv .3,
-      omega (arith, if1· .left, loop· .inv .4, put-figure· .ensures .1, put-figure· .kept .1 .1 .1 .0),
-      loop· .inv .5,
-      after-moved (args· .pen) (loop· .place + args· .look .domain .multi - args· .from) (trace· .result .point) (omega (arith, loop· .inv .1, r .0)),
-      λ l m k h t. reaches-point _ _ _ _ _ _ _ l m _ _ _ _ _ _ _ _ _ _ _ _ _ (loop· .inv .1) (pre· .0) (loop· .inv .5) (loop· .inv .6) (loop· .inv .0) (role-due· .ensures) (w .0) (omega (arith, if1· .left, loop· .inv .4)) h (r .0) (r .1) (omega (arith, w .1, pre· .4)) t (w .2) (λ bs a e. trace· .ensures .0 l _ bs (target· .ensures .0) (target· .ensures .1) e a m) (put-figure· .ensures .0 l k) (with-due· .ensures) (loop· .inv .7 l m k h t),
-    )
+    let w = point-due· .ensures _ (whole· .given .1) in record { own = loop· .inv .own ∙ ap rowOf (sym (ap (λ (x : Command). x .opcode) (with-due· .ensures) ∙ trace· .ensures .1)); begun = omega (arith, loop· .inv .begun); within = w .1; long = put-figure· .kept .1 .1 .1 .0 ∙ loop· .inv .long; room = omega (arith, if1· .left, loop· .inv .room, put-figure· .ensures .1, put-figure· .kept .1 .1 .1 .0); eight = loop· .inv .eight; stands = after-moved (args· .pen) (loop· .place + args· .look .domain .multi - args· .from) (trace· .result .point) (omega (arith, loop· .inv .begun, r .0)); runs = λ l m k h t. reaches-point _ _ _ _ _ _ _ l m _ _ _ _ _ _ _ _ _ _ _ _ _ (loop· .inv .begun) (pre· .0) (loop· .inv .eight) (loop· .inv .stands) (loop· .inv .own) (role-due· .ensures) (w .0) (omega (arith, if1· .left, loop· .inv .room)) h (r .0) (r .1) (omega (arith, w .1, pre· .4)) t (w .2) (λ bs a e. trace· .ensures .0 l _ bs (target· .ensures .0) (target· .ensures .1) e a m) (put-figure· .ensures .0 l k) (with-due· .ensures) (loop· .inv .runs l m k h t) }
 
 sub-after-5 : tie.Need-sub-after-5 Inv-loop μ-loop
 sub-after-5 c =
     let loop· = c .before .loop in
-    loop· .inv .1
+    loop· .inv .begun
 
 same-length-5 : tie.Need-same-length-5 Inv-loop μ-loop
 same-length-5 c =
     let loop· = c .before .before .loop in
-    loop· .inv .3
+    loop· .inv .long
 
 returns-5 : tie.Need-returns-5 Inv-loop μ-loop
 returns-5 c =
@@ -303,7 +291,7 @@ returns-5 c =
     let loop· = c .before .before .loop in
     let after5· = c .after5 in
     let k : Inks _ _ (args· .look) = record { head = head-of· .ensures; size = refl } in
-    reaches-end _ _ _ _ _ _ _ _ _ _ (args· .look) _ _ _ (loop· .inv .1) (loop· .inv .2) (after5· .ensures) (λ m. loop· .inv .7 (args· .look) m k refl refl)
+    reaches-end _ _ _ _ _ _ _ _ _ _ (args· .look) _ _ _ (loop· .inv .begun) (loop· .inv .within) (after5· .ensures) (λ m. loop· .inv .runs (args· .look) m k refl refl)
 
 pub run-commands-spec : {M : Type 1} → statement M
 run-commands-spec =

@@ -7,6 +7,7 @@ use Rattle.reader.proofs.PieceLaws.{PieceUnread, piece-first, piece-within, pie
 use Rattle.feedpage.proofs.feed_piece.Statement.{statement}
 use Rattle.feedpage.proofs.feed_piece.Tie as tie
 
+-- The piece is read as far as the place
 abbrev Inv-loop : tie.InvT-loop
 Inv-loop store₀ piece out₀ session₀ at₀ store out session at = PieceUnread (stateLent session₀ store₀) piece at (stateLent session store)
 

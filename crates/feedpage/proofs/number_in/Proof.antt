@@ -4,6 +4,7 @@ use lib.ListN.{length}
 use Rattle.feedpage.proofs.number_in.Statement.{statement}
 use Rattle.feedpage.proofs.number_in.Tie as tie
 
+-- The number is small
 abbrev Inv-loop : tie.InvT-loop
 Inv-loop text number₀ i₀ number i = number ≤ 10000009
 

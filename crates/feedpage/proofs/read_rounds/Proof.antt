@@ -4,6 +4,7 @@ use lib.ListN.{length}
 use Rattle.feedpage.proofs.read_rounds.Statement.{statement}
 use Rattle.feedpage.proofs.read_rounds.Tie as tie
 
+-- The buffer keeps its length
 abbrev Inv-loop : tie.InvT-loop
 Inv-loop rounds store₀ piece₀ out₀ turn₀ left₀ store piece out turn left = length piece ≡ length piece₀
 

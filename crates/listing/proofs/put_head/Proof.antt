@@ -1,26 +1,33 @@
+use mathlib.Core.List.{List}
 use Rattle.listing.proofs.Decimals.{decimal-length}
 use Rattle.listing.proofs.Places.{nothing, joined}
 use Rattle.listing.specs.Text.{fieldOf, separator, fieldsTo, Put}
 use native.Mathlib.Omega.{arith}
 use native.Mathlib.Numerals.{add-one}
 use mathlib.Core.Path.{_≡_, refl}
-use Prim.Native.Nat.{_+_, _*_, _-_, _≤_}
+use Prim.Native.Nat.{ℕ, _+_, _*_, _-_, _≤_}
 use lib.ListN.{length}
 use borrow.Author.Tests.{lt-ltb}
 use borrow.Author.Needs.{needs}
 use Rattle.listing.proofs.put_head.Statement.{statement}
 use Rattle.listing.proofs.put_head.Tie as tie
 
+-- i fields are put, a blank after each
+record Headed (text₀ : List ℕ) (at : ℕ) (bytes text : List ℕ) (to i : ℕ) : Type 0 where
+  fields : Put at (fieldsTo bytes i) text₀ text to
+  most : i ≤ 8
+  short : to ≤ at + 4 * i
+  long : length text ≡ length text₀
+
 abbrev Inv-loop : tie.InvT-loop
-Inv-loop text₀ at bytes to₀ i₀ text to i =
-    Put at (fieldsTo bytes i) text₀ text to × ((i ≤ 8) × ((to ≤ at + 4 * i) × (length text ≡ length text₀)))
+Inv-loop text₀ at bytes to₀ i₀ text to i = Headed text₀ at bytes text to i
 
 abbrev μ-loop : tie.MeasureT-loop
 μ-loop text₀ at bytes to₀ i₀ text to i = 8 - i
 
 loop-holds : tie.Need-loop-holds Inv-loop μ-loop
 unfolding fieldsTo
-loop-holds c = (nothing _ _, (omega arith, (omega arith, refl)))
+loop-holds c = record { fields = nothing _ _; most = omega arith; short = omega arith; long = refl }
 
 shared-slice-read-wide : tie.Need-shared-slice-read-wide Inv-loop μ-loop
 shared-slice-read-wide c = search needs
@@ -51,11 +58,13 @@ loop-again c =
     let loop· = c .before .before .before .before .before .before .before .before .before .before .before .loop in
     let loop-test· = c .before .before .before .before .before .before .before .before .before .before .loop-test in
     let wide· = c .before .before .before .before .before .before .before .wide in
-    let field = joined (omega arith) (put-short· .ensures) (put-byte· .ensures) in (
-      rw (add-one, lt-ltb (loop· .i) 8 (loop-test· .taken), lt-ltb (loop· .i) 15 (omega arith), ← wide· .ensures .0)
-          (joined (omega arith) (loop· .inv .0) field),
-      (omega arith, (omega (arith, put-short· .ensures .end, put-byte· .ensures .end, decimal-length 2 20 (wide· .result) (omega (arith, wide· .ensures .1))), search needs)),
-    )
+    let field = joined (omega arith) (put-short· .ensures) (put-byte· .ensures) in record {
+      fields = rw (add-one, lt-ltb (loop· .i) 8 (loop-test· .taken), lt-ltb (loop· .i) 15 (omega arith), ← wide· .ensures .0)
+          (joined (omega arith) (loop· .inv .fields) field);
+      most = omega arith;
+      short = omega (arith, put-short· .ensures .end, put-byte· .ensures .end, decimal-length 2 20 (wide· .result) (omega (arith, wide· .ensures .1)));
+      long = search needs;
+    }
 
 same-length : tie.Need-same-length Inv-loop μ-loop
 same-length c = search needs
@@ -64,7 +73,7 @@ returns : tie.Need-returns Inv-loop μ-loop
 returns c =
     let loop· = c .before .loop in
     let all : loop· .i ≡ 8 = omega arith in
-    (rw all at (loop· .inv .0), omega arith)
+    (rw all at (loop· .inv .fields), omega arith)
 
 pub put-head-spec : {M : Type 1} → statement M
 put-head-spec =

@@ -1,3 +1,4 @@
+use mathlib.Core.List.{List}
 use Rattle.listing.proofs.Places.{nothing, joined, counts, record-fits}
 use Rattle.listing.specs.Text.{linesTo, Put}
 use native.Mathlib.Omega.{arith}
@@ -11,9 +12,15 @@ use borrow.Author.Needs.{needs}
 use Rattle.listing.proofs.put_lines.Statement.{statement}
 use Rattle.listing.proofs.put_lines.Tie as tie
 
+-- The lines of i records are put
+record Listed (text₀ out : List ℕ) (records : ℕ) (text : List ℕ) (to i : ℕ) : Type 0 where
+  lines : Put 0 (linesTo out i) text₀ text to
+  most : i ≤ records
+  short : to ≤ 128 * i
+  long : length text ≡ length text₀
+
 abbrev Inv-loop : tie.InvT-loop
-Inv-loop text₀ out written records to₀ i₀ text to i =
-    Put 0 (linesTo out i) text₀ text to × ((i ≤ records) × ((to ≤ 128 * i) × (length text ≡ length text₀)))
+Inv-loop text₀ out written records to₀ i₀ text to i = Listed text₀ out records text to i
 
 abbrev μ-loop : tie.MeasureT-loop
 μ-loop text₀ out written records to₀ i₀ text to i = records - i
@@ -23,7 +30,7 @@ least-requires c κs = search needs
 
 loop-holds : tie.Need-loop-holds Inv-loop μ-loop
 unfolding linesTo
-loop-holds c = (nothing _ _, (omega arith, (omega arith, refl)))
+loop-holds c = record { lines = nothing _ _; most = omega arith; short = omega arith; long = refl }
 
 mul-from : tie.Need-mul-from Inv-loop μ-loop
 mul-from c =
@@ -71,10 +78,7 @@ unfolding linesTo
 loop-again c =
     let loop· = c .before .before .before .before .before .before .loop in
     let put-line· = c .before .before .put-line in
-    let forty : 40 * loop· .i + 40 - 40 * loop· .i ≡ 40 = omega arith in (
-      rw (add-one) (joined (omega arith) (loop· .inv .0) (rw forty at (put-line· .ensures .0))),
-      (omega arith, (omega arith, search needs)),
-    )
+    let forty : 40 * loop· .i + 40 - 40 * loop· .i ≡ 40 = omega arith in record { lines = rw (add-one) (joined (omega arith) (loop· .inv .lines) (rw forty at (put-line· .ensures .0))); most = omega arith; short = omega arith; long = search needs }
 
 same-length : tie.Need-same-length Inv-loop μ-loop
 same-length c = search needs
@@ -85,7 +89,7 @@ returns c =
     let least· = c .before .before .least in
     let args· = c .before .before .before .before .before .args in
     let all : loop· .i ≡ least· .result / 40 = omega arith in (
-      rw (← least· .ensures, ← all) (loop· .inv .0),
+      rw (← least· .ensures, ← all) (loop· .inv .lines),
       counts _ _ (omega (arith, least· .ensures, min-le-right (args· .written) (length (now (args· .out))))),
     )
 

@@ -10,6 +10,7 @@ use Rattle.operands.proofs.Operands.{point-next}
 use Rattle.operands.proofs.read_point.Statement.{statement}
 use Rattle.operands.proofs.read_point.Tie as tie
 
+-- i bytes are read
 abbrev Inv-loop : tie.InvT-loop
 Inv-loop bytes three p₀ i₀ p i = (i ≤ length bytes) × (p ≡ point three (take i bytes))
 

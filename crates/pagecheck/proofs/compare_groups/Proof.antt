@@ -4,6 +4,7 @@ use lib.ListN.{length}
 use Rattle.pagecheck.proofs.compare_groups.Statement.{statement}
 use Rattle.pagecheck.proofs.compare_groups.Tie as tie
 
+-- Nothing is kept
 abbrev Inv-loop : tie.InvT-loop
 Inv-loop index pages₀ at₀ pages at = Unit {0}
 

@@ -4,6 +4,7 @@ use lib.ListN.{length}
 use Rattle.pagecheck.proofs.compare_pages.Statement.{statement}
 use Rattle.pagecheck.proofs.compare_pages.Tie as tie
 
+-- No more pages than places
 abbrev Inv-loop : tie.InvT-loop
 Inv-loop group index pages₀ at₀ pages at = pages ≤ at
 

@@ -4,6 +4,7 @@ use lib.ListN.{length}
 use Rattle.pagecheck.proofs.meet.Statement.{statement}
 use Rattle.pagecheck.proofs.meet.Tie as tie
 
+-- Nothing is kept
 abbrev Inv-loop : tie.InvT-loop
 Inv-loop listing met text at₀ i₀ at i = Unit {0}
 

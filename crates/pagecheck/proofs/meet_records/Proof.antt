@@ -4,6 +4,7 @@ use lib.ListN.{length}
 use Rattle.pagecheck.proofs.meet_records.Statement.{statement}
 use Rattle.pagecheck.proofs.meet_records.Tie as tie
 
+-- The place is in the records
 abbrev Inv-loop : tie.InvT-loop
 Inv-loop listing records met₀ at₀ met at = at ≤ length records
 

@@ -8,6 +8,7 @@ use Rattle.pagelist.specs.declared.Turn.{Turn}
 use Rattle.pagelist.proofs.feed_piece.Statement.{statement}
 use Rattle.pagelist.proofs.feed_piece.Tie as tie
 
+-- The piece is read as far as the place
 abbrev Inv-loop : tie.InvT-loop
 Inv-loop store₀ piece out₀ text₀ session₀ at₀ store out text session at =
     PieceUnread (stateLent session₀ store₀) piece at (stateLent session store)

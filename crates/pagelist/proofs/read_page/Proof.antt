@@ -6,6 +6,7 @@ use Rattle.rules.specs.Step.{stateLent}
 use Rattle.pagelist.proofs.read_page.Statement.{statement}
 use Rattle.pagelist.proofs.read_page.Tie as tie
 
+-- The buffer keeps its length
 abbrev Inv-loop : tie.InvT-loop
 Inv-loop store₀ piece₀ out₀ text₀ session₀ store piece out text session = length piece ≡ length piece₀
 

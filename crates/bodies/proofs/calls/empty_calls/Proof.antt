@@ -9,6 +9,7 @@ use Prim.Native.Nat.{_-_, _≤_}
 use Rattle.bodies.proofs.calls.empty_calls.Statement.{statement}
 use Rattle.bodies.proofs.calls.empty_calls.Tie as tie
 
+-- So many names call empty bodies
 abbrev Inv-loop : tie.InvT-loop
 Inv-loop firsts bytes from to most count₀ count = (CallsEmpty firsts bytes from count) × (count ≤ most)
 

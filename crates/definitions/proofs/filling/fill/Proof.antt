@@ -12,6 +12,7 @@ use Rattle.definitions.proofs.StoringLaws.{byte-stored, refused-keeps}
 use Rattle.definitions.proofs.filling.fill.Statement.{statement}
 use Rattle.definitions.proofs.filling.fill.Tie as tie
 
+-- So many bytes are stored
 abbrev Inv-loop : tie.InvT-loop
 Inv-loop store₀ firsts₀ bytes from to name last₀ count₀ store firsts last count = (from + count ≤ to) × (length store ≡ 8192) × (Stores bytes from (fillingOf (record { name = name; last = last₀ }) firsts₀ store₀) count (fillingOf (record { name = name; last = last }) firsts store))
 

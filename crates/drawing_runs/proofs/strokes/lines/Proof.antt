@@ -1,6 +1,9 @@
+use mathlib.Core.List.{List}
+use Rattle.records.specs.declared.Head.{Head}
+use Rattle.rules.specs.declared.Point.{Point}
 use mathlib.Core.Path.{_≡_, refl, sym, _∙_}
 use mathlib.Core.Bool.{false}
-use Prim.Native.Nat.{_+_, _*_, _-_, _≤_}
+use Prim.Native.Nat.{ℕ, _+_, _*_, _-_, _≤_}
 use native.Mathlib.Omega.{arith}
 use lib.ListN.{length}
 use denote.Ref.{now}
@@ -15,9 +18,15 @@ use Rattle.drawing_runs.proofs.StrokeLaws.{lines-none, lines-on}
 use Rattle.drawing_runs.proofs.strokes.lines.Statement.{statement}
 use Rattle.drawing_runs.proofs.strokes.lines.Tie as tie
 
+-- n points are read, and the lines to them written
+record Drawn (head : Head) (pel : Point) (bytes : List ℕ) (from : ℕ) (out₀ : List ℕ) (at limit : ℕ) (point₀ : Point) (out : List ℕ) (n : ℕ) (point : Point) : Type 0 where
+  most : n ≤ limit
+  long : length out ≡ length out₀
+  room : at + 40 * n ≤ length out₀
+  lines : Lines bytes from head pel point₀ at out₀ (3 * n) point (at + 40 * n) out
+
 abbrev Inv-loop : tie.InvT-loop
-Inv-loop head pel bytes from to out₀ at most n₀ point₀ out n point =
-    (n ≤ most) × (length out ≡ length out₀) × (at + 40 * n ≤ length out₀) × Lines bytes from head pel point₀ at out₀ (3 * n) point (at + 40 * n) out
+Inv-loop head pel bytes from to out₀ at most n₀ point₀ out n point = Drawn head pel bytes from out₀ at most point₀ out n point
 
 abbrev μ-loop : tie.MeasureT-loop
 μ-loop head pel bytes from to out₀ at most n₀ point₀ out n point = most - n
@@ -34,7 +43,7 @@ most-steps-requires c κs = search needs
 loop-holds : tie.Need-loop-holds Inv-loop μ-loop
 loop-holds c =
     let pre· = c .before .before .before .pre in
-    (omega arith, refl, omega (arith, pre·), lines-none _ _ _ _ _ _ _)
+    record { most = omega arith; long = refl; room = omega (arith, pre·); lines = lines-none _ _ _ _ _ _ _ }
 
 mul-three-bytes : tie.Need-mul-three-bytes Inv-loop μ-loop
 mul-three-bytes c =
@@ -65,13 +74,13 @@ mul-put-words : tie.Need-mul-put-words Inv-loop μ-loop
 mul-put-words c =
     let loop· = c .before .before .before .before .before .before .loop in
     let good· = c .before .before .before .before .before .before .before .before .before .before .good in
-    omega (arith, loop· .inv .2, good·)
+    omega (arith, loop· .inv .room, good·)
 
 add-put-words : tie.Need-add-put-words Inv-loop μ-loop
 add-put-words c =
     let loop· = c .before .before .before .before .before .before .loop in
     let good· = c .before .before .before .before .before .before .before .before .before .before .good in
-    omega (arith, loop· .inv .2, good·)
+    omega (arith, loop· .inv .room, good·)
 
 put-words-requires : tie.Need-put-words-requires Inv-loop μ-loop
 put-words-requires c κs =
@@ -79,7 +88,7 @@ put-words-requires c κs =
     let loop· = c .before .before .before .before .before .before .loop in
     let loop-test· = c .before .before .before .before .before .loop-test in
     let g = most-steps· .ensures .1 (loop· .n) (loop-test· .taken) in
-    omega (arith, g, loop· .inv .1)
+    omega (arith, g, loop· .inv .long)
 
 add-n : tie.Need-add-n Inv-loop μ-loop
 add-n c = omega arith
@@ -105,46 +114,46 @@ loop-again c =
     let place = args· .from + 3 * loop· .n in
     let h : place + 3 ≤ length bytes = omega (arith, loop-test· .taken, most-steps· .ensures .0, pre· .0, pre· .1) in
     let g = most-steps· .ensures .1 (loop· .n) (loop-test· .taken) in
-    let room : args· .at + 40 * loop· .n + roomForStep ≤ length (loop· .out) = omega (arith, g, loop· .inv .1, pre· .2) in
+    let room : args· .at + 40 * loop· .n + roomForStep ≤ length (loop· .out) = omega (arith, g, loop· .inv .long, pre· .2) in
     let told = three-told bytes place h (λ i. k .given i .fits) allData _ _ (are-data· .ensures) (three-bytes· .ensures) in
-    let read = three-told bytes place h (λ i. k .given i .fits) (point false) _ _ (point-of-three· .ensures) (three-bytes· .ensures) in (
-      omega arith,
-      search needs,
-      omega (arith, room, loop· .inv .1),
-      lines-on bytes (args· .from) (loop· .n) _ h (sym told ∙ not-false (are-data· .result) (if1· .left)) read
-          (args· .head) (args· .pel) _ (args· .at) _ (loop· .point) (loop· .out) _ room (put-words· .ensures) (loop· .inv .3),
-    )
+    let read = three-told bytes place h (λ i. k .given i .fits) (point false) _ _ (point-of-three· .ensures) (three-bytes· .ensures) in record {
+      most = omega arith;
+      long = search needs;
+      room = omega (arith, room, loop· .inv .long);
+      lines = lines-on bytes (args· .from) (loop· .n) _ h (sym told ∙ not-false (are-data· .result) (if1· .left)) read
+          (args· .head) (args· .pel) _ (args· .at) _ (loop· .point) (loop· .out) _ room (put-words· .ensures) (loop· .inv .lines);
+    }
 
 mul-t14 : tie.Need-mul-t14 Inv-loop μ-loop
 mul-t14 c =
     let loop· = c .before .loop in
     let most-steps· = c .before .before .most-steps in
     let fits· = c .before .before .before .before .before .fits in
-    omega (arith, loop· .inv .0, most-steps· .ensures .0, fits·)
+    omega (arith, loop· .inv .most, most-steps· .ensures .0, fits·)
 
 mul-t15 : tie.Need-mul-t15 Inv-loop μ-loop
 mul-t15 c =
     let loop· = c .before .loop in
     let good· = c .before .before .before .before .before .good in
-    omega (arith, loop· .inv .2, good·)
+    omega (arith, loop· .inv .room, good·)
 
 add-t16 : tie.Need-add-t16 Inv-loop μ-loop
 add-t16 c =
     let loop· = c .before .loop in
     let good· = c .before .before .before .before .before .good in
-    omega (arith, loop· .inv .2, good·)
+    omega (arith, loop· .inv .room, good·)
 
 same-length : tie.Need-same-length Inv-loop μ-loop
 same-length c =
     let loop· = c .before .loop in
-    loop· .inv .1
+    loop· .inv .long
 
 returns : tie.Need-returns Inv-loop μ-loop
 returns c =
     let loop· = c .before .loop in
     let most-steps· = c .before .before .most-steps in
     let pre· = c .before .before .before .before .before .pre in
-    (loop· .inv .3, omega (arith, loop· .inv .0, most-steps· .ensures .0, pre· .0))
+    (loop· .inv .lines, omega (arith, loop· .inv .most, most-steps· .ensures .0, pre· .0))
 
 pub lines-spec : {M : Type 1} → statement M
 lines-spec =

@@ -14,6 +14,7 @@ use Rattle.drawing_runs.proofs.StrokeLaws.{moves-none, moves-on}
 use Rattle.drawing_runs.proofs.strokes.moves.Statement.{statement}
 use Rattle.drawing_runs.proofs.strokes.moves.Tie as tie
 
+-- The drawing point is at the last point read
 abbrev Inv-loop : tie.InvT-loop
 Inv-loop bytes from to i₀ point₀ i point = (from ≤ i) × (i ≤ to) × Moves bytes from (i - from) point
 

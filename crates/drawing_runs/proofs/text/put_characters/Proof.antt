@@ -7,6 +7,7 @@ use Rattle.drawing_runs.proofs.TextLaws.{Typed, typed-none, typed-on}
 use Rattle.drawing_runs.proofs.text.put_characters.Statement.{statement}
 use Rattle.drawing_runs.proofs.text.put_characters.Tie as tie
 
+-- So many characters are put
 abbrev Inv-loop : tie.InvT-loop
 Inv-loop bytes from most out₀ at last head point pel count₀ out count = (count ≤ most) × (length out ≡ length out₀) × Typed last head point pel bytes from at out₀ count out
 

@@ -10,6 +10,7 @@ use Rattle.operands.proofs.WholeLaws.{long-more, long-point, long-cut, 
 use Rattle.operands.proofs.whole.whole_long.Statement.{statement}
 use Rattle.operands.proofs.whole.whole_long.Tie as tie
 
+-- i bytes are data, and the point is theirs
 abbrev Inv-loop : tie.InvT-loop
 Inv-loop bytes at n three p₀ i₀ p i =
     (i ≤ n) × (p ≡ point three (take i (drop at bytes))) × (allData (take i (drop at bytes)) ≡ true)

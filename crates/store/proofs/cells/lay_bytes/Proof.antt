@@ -8,6 +8,7 @@ use Rattle.store.proofs.RunLaws.{laid-on}
 use Rattle.store.proofs.cells.lay_bytes.Statement.{statement}
 use Rattle.store.proofs.cells.lay_bytes.Tie as tie
 
+-- n bytes are laid
 abbrev Inv-loop : tie.InvT-loop
 Inv-loop store₀ cell place bytes from to at most n₀ store n = (Laid bytes from cell place store₀ n store) × (n ≤ most) × (length store ≡ 8192)
 

@@ -6,6 +6,7 @@ use Rattle.store.proofs.ChainLaws.{last-none, last-here, last-on}
 use Rattle.store.proofs.chains.last_cell.Statement.{statement}
 use Rattle.store.proofs.chains.last_cell.Tie as tie
 
+-- The last cell is the last one from here on
 abbrev Inv-loop : tie.InvT-loop
 Inv-loop store first cell₀ left₀ cell left = (lastCell 255 store first ≡ lastCell left store cell) × (cell < 256) × (left ≤ 255)
 

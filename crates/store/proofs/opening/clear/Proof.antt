@@ -7,6 +7,7 @@ use Rattle.rules.proofs.Lists.{fill-more, fill-all}
 use Rattle.store.proofs.opening.clear.Statement.{statement}
 use Rattle.store.proofs.opening.clear.Tie as tie
 
+-- The bytes before this one are cleared
 abbrev Inv-loop : tie.InvT-loop
 Inv-loop store₀ i₀ store i = (store ≡ replicate i 0 ++ drop i store₀) × (i ≤ length store₀) × (length store ≡ length store₀)
 
