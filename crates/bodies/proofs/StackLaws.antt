@@ -1,21 +1,18 @@
 -- Laws of the stack of bodies.
--- Assumes nothing.
 use mathlib.Core.Path.{_≡_, refl, sym, ap, _∙_, subst}
 use mathlib.Core.Bool.{Bool, true, false}
 use mathlib.Core.List.{List}
 use Prim.Native.Nat.{ℕ, zero, suc, _+_, _-_, _<_, _≤_}
 use native.Mathlib.Nat.{not-suc-le-zero}
-use native.Mathlib.Numerals.{add-one, sub-one}
+use native.Mathlib.Numerals.{sub-one}
 use native.Mathlib.Omega.{arith}
 use lib.Dec.{ltb}
-use borrow.Author.Tests.{le-leb, lt-leb, ltb-true, ltb-false}
-use lib.ListN.{length, getD, drop, drop-of-length-le}
-use lib.Seq.{drop-cons}
+use borrow.Author.Tests.{ltb-true, ltb-false}
+use lib.ListN.{getD}
 use Rattle.rules.specs.declared.Bodies.{Bodies}
 use Rattle.rules.specs.declared.Cursor.{Cursor}
 use Rattle.rules.specs.Choice.{pick}
 use Rattle.rules.specs.Bodies.{bodyAt, hasLeft, depthLeft}
-use Rattle.rules.specs.Ranges.{placesFit}
 use Rattle.rules.proofs.Bools.{pick-yes, pick-no}
 use Rattle.bodies.specs.Calls.{NamesEmpty, CallsEmpty}
 
@@ -40,20 +37,6 @@ module _ (st : List ℕ) (y : Bodies) where
 
     pub left-below : r ≡ false → depthLeft st y d ≡ depthLeft st y (d - 1)
     left-below t = left-by ∙ pick-no d _ t
-
--- The places from one on: it is in range, or not
-module _ (ps : List ℕ) (i : ℕ) (h : i < length ps) where
-  pub fit-on : getD ps i 0 ≤ 30 → placesFit (drop i ps) ≡ placesFit (drop (i + 1) ps)
-  unfolding placesFit
-  fit-on le = rw (add-one, drop-cons ps i 0 h, le-leb (getD ps i 0) 30 le)
-
-  pub fit-not : 30 < getD ps i 0 → placesFit (drop i ps) ≡ false
-  unfolding placesFit
-  fit-not lt = rw (drop-cons ps i 0 h, lt-leb (getD ps i 0) 30 lt)
-
-pub fit-end : (ps : List ℕ) (i : ℕ) → length ps ≤ i → placesFit (drop i ps) ≡ true
-unfolding placesFit
-fit-end ps i h = rw (drop-of-length-le ps {i = i} h)
 
 -- Calls of empty bodies: one more
 pub calls-more : (firsts bytes : List ℕ) (from n : ℕ) → CallsEmpty firsts bytes from n → NamesEmpty firsts (getD bytes (from + n) 0) → CallsEmpty firsts bytes from (n + 1)

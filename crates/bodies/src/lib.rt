@@ -2,17 +2,13 @@
 pub mod calls;
 
 use rules::Cursor;
-use rules::MOST_BYTES;
-use rules::MOST_DEPTH;
 use rules::Read;
 use store::cursors::has_left;
 use store::cursors::read_body;
 ghost use mathlib.Core.Path.{_≡_};
-ghost use mathlib.Core.List.{List};
 ghost use Prim.Native.Nat.{ℕ, _-_, _<_, _≤_};
 ghost use lib.ListN.{length, set};
 ghost use Rattle.rules.specs.Bodies.{bodyAt, depthLeft, bytesLeft, readBody};
-ghost use Rattle.rules.specs.Ranges.{placesFit, bodiesFit};
 ghost use Rattle.store.specs.Lent.{Sized};
 ghost use Rattle.bodies.specs.Stack.{bodiesOf};
 
@@ -67,24 +63,4 @@ pub fn set_body(cells: &mut [u8; 8], places: &mut [u8; 8], index: u8, cursor: Cu
 {
     cells[index as usize] = cursor.cell;
     places[index as usize] = cursor.place;
-}
-
-fn places_fit(places: &[u8]) -> bool
-    ensures { λ r. ⌜ r ≡ placesFit (now (places .entry)) ⌝ }
-{
-    let mut i = 0;
-    while i < places.len() {
-        if MOST_BYTES < places[i] {
-            return false;
-        }
-        i += 1;
-    }
-    true
-}
-
-// Whether a lent stack is in range. Its cells are bytes, so each names a cell of the store.
-pub fn bodies_fit(depth: u8, places: &[u8; 8]) -> bool
-    ensures { λ r. ⌜ ((cells : List ℕ) → r ≡ bodiesFit (bodiesOf depth cells (now (places .entry)))) ⌝ }
-{
-    depth <= MOST_DEPTH && places_fit(places)
 }

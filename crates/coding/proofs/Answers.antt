@@ -1,5 +1,4 @@
 -- What an answer keeps of the first cells and of the store.
--- Assumes nothing.
 use mathlib.Core.Path.{_≡_, refl}
 use mathlib.Core.List.{List}
 use Prim.Native.Nat.{ℕ}

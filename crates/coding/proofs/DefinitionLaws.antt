@@ -1,5 +1,4 @@
 -- A definition: what a function answers, from what its calls hand back.
--- Assumes nothing.
 use mathlib.Core.Path.{_≡_, refl}
 use mathlib.Core.Bool.{Bool, true, false}
 use mathlib.Core.List.{List}

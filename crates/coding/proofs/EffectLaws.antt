@@ -1,6 +1,5 @@
 -- What the step around the coding layer leans on: only a byte that asks nothing of drawing changes first cells or store, so that a
 -- refusal by drawing has none to undo; and a call's name is the byte, 2/0 to 7/15, so that it has a first cell.
--- Assumes nothing.
 use mathlib.Core.Path.{_≡_, refl}
 use mathlib.Core.Bool.{Bool, true, false}
 use mathlib.Core.List.{List}

@@ -1,5 +1,4 @@
 -- The reaction by what is waited for, and the sets after it.
--- Assumes nothing.
 use mathlib.Core.Path.{_≡_, refl}
 use mathlib.Core.Bool.{true}
 use mathlib.Core.List.{List, [], _∷_}
@@ -21,7 +20,7 @@ use Rattle.rules.specs.declared.Sets.{Sets}
 use Rattle.rules.specs.declared.Waiting.{Waiting}
 use Rattle.rules.specs.declared.Waiting.the-variants.{Nothing, Shifted, Escape, Designator, Longer, Name, Body, BodyEscape}
 use Rattle.rules.specs.Coding.{Refuse, classOf, reactTo, react}
-use Rattle.rules.specs.Ranges.{nameFits, waitingFits}
+use Rattle.rules.specs.Ranges.{nameFits}
 use Rattle.store.specs.Lent.{IsName}
 use Rattle.coding.specs.View.{codingOf, setsAfter, elementRead, setRead, readFrom}
 use Rattle.coding.specs.declared.reactions.Effect.{Effect}
@@ -34,21 +33,6 @@ is-name d h =
     let least = leb 32 (d .name) in
     let most = leb (d .name) 127 in
     (leb-true 32 (d .name) (and-left least most h), leb-true (d .name) 127 (and-right least most h))
-
--- What holds no definition is in range
-abbrev no-definition : List ℕ
-no-definition = 0 ∷ 1 ∷ 2 ∷ 3 ∷ 4 ∷ 5 ∷ []
-
-pub others-fit : (w : Waiting) → OneOf no-definition (tagOf the-waiting w) → true ≡ waitingFits w
-unfolding waitingFits
-others-fit Nothing h = refl
-others-fit (Shifted s) h = refl
-others-fit Escape h = refl
-others-fit (Designator e) h = refl
-others-fit Longer h = refl
-others-fit Name h = refl
-others-fit (Body d) h = absurd (miss no-definition 6 tt h)
-others-fit (BodyEscape d) h = absurd (miss no-definition 7 tt h)
 
 -- The sets after an effect: most leave them
 abbrev no-change : List ℕ

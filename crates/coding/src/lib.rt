@@ -2,7 +2,6 @@
 pub mod characters;
 pub mod defining;
 pub mod escapes;
-pub mod ranges;
 pub mod reactions;
 
 use crate::characters::read_from;

@@ -1,5 +1,4 @@
 -- Laws of ESC and another byte: the test made first tells how both end.
--- Assumes nothing.
 use mathlib.Core.Path.{_≡_, refl, sym, ap, _∙_}
 use mathlib.Core.Bool.{Bool, true, false}
 use mathlib.Core.List.{List}

@@ -1,5 +1,4 @@
 -- Laws of runs: bytes laid into a cell whose count is then set are bytes stored one after the other.
--- Assumes nothing.
 use mathlib.Core.Path.{_≡_, refl, ap, _∙_}
 use mathlib.Core.Bool.{true}
 use mathlib.Core.List.{List, [], _∷_}

@@ -1,5 +1,4 @@
 -- Laws of storing a byte: the rule by its cases, and from what the calls hand back.
--- Assumes nothing.
 use mathlib.Core.Path.{_≡_, sym, ap, _∙_}
 use mathlib.Core.Bool.{true, false}
 use mathlib.Core.List.{List}

@@ -1,5 +1,4 @@
 -- Records of the drawing point and the opening of a command, carried out.
--- Assumes nothing.
 use Prim.Native.Nat.{ℕ, _+_}
 use mathlib.Core.Path.{_≡_}
 use mathlib.Core.Bool.{false}

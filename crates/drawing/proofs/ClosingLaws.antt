@@ -1,5 +1,4 @@
 -- Closing, carried out.
--- Assumes nothing.
 use Prim.Native.Nat.{ℕ, _+_, _≤_, zero-le}
 use native.Mathlib.Omega.{arith}
 use mathlib.Core.Path.{_≡_, refl, sym, ap, _∙_}

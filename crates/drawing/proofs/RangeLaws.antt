@@ -1,9 +1,8 @@
 -- What a drawing state in range has.
--- Assumes nothing.
 use Prim.Native.Nat.{ℕ, _≤_, _<_}
 use native.Mathlib.Omega.{arith}
-use mathlib.Core.Path.{_≡_, sym, _∙_}
-use mathlib.Core.Bool.{Bool, true, false, _&&_}
+use mathlib.Core.Path.{_≡_}
+use mathlib.Core.Bool.{true, _&&_}
 use lib.Dec.{leb, eqb}
 use borrow.Author.Tests.{ltb-true, leb-true, eqb-true}
 use Rattle.rules.specs.declared.Domain.{Domain}
@@ -13,13 +12,6 @@ use Rattle.rules.specs.declared.Role.the-variants.{MoveTo, DrawTo, DrawBy, Midd
 use Rattle.rules.specs.Drawing.{rowOf, lengthOf, roleDue}
 use Rattle.rules.specs.Ranges.{domainFits, colourFits, commandFits, begunFits, drawingFits}
 use Rattle.rules.proofs.Bools.{and-left, and-right, by-test}
-
--- Of two tests the first fails, or the second decides
-pub and-first : {r a : Bool} (b : Bool) → r ≡ a → r ≡ false → r ≡ (a && b)
-and-first b e h = rw (sym e ∙ h) h
-
-pub and-second : {t r a b : Bool} → t ≡ a → t ≡ true → r ≡ b → r ≡ (a && b)
-and-second e h f = rw (sym e ∙ h) f
 
 -- No operand is longer than the longer of the two lengths
 length-most : (x : Role) (o : Domain) → o .single ≤ 8 → o .multi ≤ 8 → lengthOf x o ≤ 8

@@ -1,5 +1,4 @@
 -- The drawing rules refuse with TooManyVertices only; closing refuses before it finishes.
--- Assumes nothing.
 use mathlib.Core.Path.{_≡_, refl}
 use mathlib.Core.Bool.{Bool}
 use mathlib.Core.List.{List}

@@ -2,7 +2,6 @@
 pub mod closing;
 pub mod data;
 pub mod opening;
-pub mod ranges;
 
 use crate::closing::close;
 use crate::data::data_byte;

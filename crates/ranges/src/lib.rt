@@ -1,7 +1,11 @@
 // The tests that come before a feed or an end: 12, then 14, stopped, 13.
-use bodies::bodies_fit;
-use coding::ranges::waiting_fits;
-use drawing::ranges::drawing_fits;
+pub mod drawing_state;
+pub mod stack;
+pub mod waiting;
+
+use crate::drawing_state::drawing_fits;
+use crate::stack::bodies_fit;
+use crate::waiting::waiting_fits;
 use rules::Refusal;
 use rules::STORE_SIZE;
 use rules::Session;

@@ -1,5 +1,4 @@
 -- Laws of cells. No other file knows where the parts of a cell lie.
--- Assumes nothing.
 use mathlib.Core.Path.{_≡_, sym, ap, _∙_}
 use mathlib.Core.Bool.{true}
 use mathlib.Core.List.{List, _∷_, _++_, append-nil, append-assoc}

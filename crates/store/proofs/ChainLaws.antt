@@ -1,5 +1,4 @@
 -- Laws of chains: the walk to the last cell, and freeing from what the calls hand back.
--- Assumes nothing.
 use mathlib.Core.Path.{_≡_, refl}
 use mathlib.Core.List.{List}
 use Prim.Native.Nat.{ℕ, zero, suc, _-_, _<_, _≤_}

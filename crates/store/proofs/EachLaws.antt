@@ -1,5 +1,4 @@
 -- Laws of consecutive bytes: a run goes on by a byte and by a run, and may be seen as a run of other steps.
--- Assumes nothing.
 use mathlib.Core.Path.{_≡_}
 use mathlib.Core.List.{List}
 use Prim.Native.Nat.{ℕ, zero, suc, _+_}

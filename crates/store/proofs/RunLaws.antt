@@ -1,5 +1,4 @@
 -- Laws of runs: bytes laid into a cell.
--- Assumes nothing.
 use mathlib.Core.Path.{_≡_}
 use mathlib.Core.List.{List}
 use Prim.Native.Nat.{ℕ, _+_, _*_}

@@ -1,5 +1,4 @@
 -- The `_` arm of a match on an enum: at each variant that it stands for, by its number, the rule is what the arm answers.
--- Assumes nothing.
 use mathlib.Core.Path.{_≡_, refl}
 use mathlib.Core.Bool.{true, false}
 use mathlib.Core.List.{List, [], _∷_}
