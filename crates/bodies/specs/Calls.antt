@@ -1,8 +1,5 @@
 -- Calls of empty bodies
-use Prim.Native.Nat.{ℕ, _+_, _<_}
-use mathlib.Core.List.{List}
-use mathlib.Core.Path.{_≡_}
-use lib.ListN.{getD}
+use Rattle.bodies.specs.Prelude.{ℕ, _+_, _<_, List, _≡_, getD}
 use Rattle.rules.specs.Store.{firstOf}
 use Rattle.store.specs.Lent.{IsName}
 

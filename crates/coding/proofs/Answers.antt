@@ -1,7 +1,5 @@
 -- What an answer keeps of the first cells and of the store.
-use mathlib.Core.Path.{_≡_, refl}
-use mathlib.Core.List.{List}
-use Prim.Native.Nat.{ℕ}
+use Rattle.coding.specs.Prelude.{_≡_, refl, List, ℕ}
 use Rattle.coding.specs.View.{AsLentBy, AsLent}
 use Rattle.coding.specs.declared.reactions.Effect.{Effect}
 use Rattle.coding.specs.declared.reactions.Effect.the-variants.{Refuses, Calls, Acts, Uses, Designates}

@@ -1,10 +1,5 @@
 -- A definition: what a function answers, from what its calls hand back.
-use mathlib.Core.Path.{_≡_, refl}
-use mathlib.Core.Bool.{Bool, true, false}
-use mathlib.Core.List.{List}
-use Prim.Native.Nat.{ℕ, _<_, _≤_}
-use borrow.Author.Tests.{lt-ltb, le-ltb}
-use lib.Dec.{ltb}
+use Rattle.coding.specs.Prelude.{_≡_, refl, Bool, true, false, List, ℕ, _<_, _≤_, lt-ltb, le-ltb, ltb}
 use Rattle.rules.specs.declared.Class.the-variants.{Column2, Above}
 use Rattle.rules.specs.declared.Definition.{Definition}
 use Rattle.rules.specs.declared.Refusal.{Refusal}

@@ -1,12 +1,6 @@
 -- What the step around the coding layer leans on: only a byte that asks nothing of drawing changes first cells or store, so that a
 -- refusal by drawing has none to undo; and a call's name is the byte, 2/0 to 7/15, so that it has a first cell.
-use mathlib.Core.Path.{_≡_, refl}
-use mathlib.Core.Bool.{Bool, true, false}
-use mathlib.Core.List.{List}
-use mathlib.Core.Logic.{_⊎_, inl, inr}
-use Prim.Native.Nat.{ℕ, _≤_}
-use borrow.Author.Tests.{ltb-false}
-use lib.Dec.{ltb, eqb}
+use Rattle.coding.specs.Prelude.{_≡_, refl, Bool, true, false, List, _⊎_, inl, inr, ℕ, _≤_, ltb-false, ltb, eqb}
 use Rattle.rules.proofs.Bools.{pick-all, pick-by}
 use Rattle.rules.specs.declared.Action.{Action}
 use Rattle.rules.specs.declared.Action.the-variants.{Idle}

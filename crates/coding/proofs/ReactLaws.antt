@@ -1,10 +1,5 @@
 -- The reaction by what is waited for, and the sets after it.
-use mathlib.Core.Path.{_≡_, refl}
-use mathlib.Core.Bool.{true}
-use mathlib.Core.List.{List, [], _∷_}
-use Prim.Native.Nat.{ℕ, _<_, _≤_}
-use borrow.Author.Tests.{lt-ltb, le-ltb, leb-true}
-use lib.Dec.{leb}
+use Rattle.coding.specs.Prelude.{_≡_, refl, true, List, [], _∷_, ℕ, _<_, _≤_, lt-ltb, le-ltb, leb-true, leb}
 use types.Run.{OneOf, miss}
 use denote.Enum.Declared.{tagOf}
 use Rattle.rules.proofs.Waiting.{the-type as the-waiting}

@@ -1,7 +1,5 @@
 -- What the functions of the coding layer are handed and answer, as the rules have it
-use Prim.Native.Nat.{ℕ}
-use mathlib.Core.List.{List}
-use mathlib.Core.Path.{_≡_}
+use Rattle.coding.specs.Prelude.{ℕ, List, _≡_}
 use Rattle.rules.specs.declared.Element.{Element}
 use Rattle.rules.specs.declared.Set.{Set}
 use Rattle.rules.specs.declared.Sets.{Sets}

@@ -1,9 +1,5 @@
 -- Runs of the bytes that open and end a definition.
-use mathlib.Core.Path.{_≡_, refl, ap, _∙_}
-use mathlib.Core.List.{List}
-use Prim.Native.Nat.{ℕ, _+_}
-use native.Mathlib.Omega.{arith}
-use lib.ListN.{getD}
+use Rattle.coding_runs.specs.Prelude.{_≡_, refl, ap, _∙_, List, ℕ, _+_, arith, getD}
 use Rattle.rules.specs.declared.Action.the-variants.{Idle as Idle·action}
 use Rattle.rules.specs.declared.Coding.{Coding}
 use Rattle.rules.specs.declared.Definition.{Definition}

@@ -1,12 +1,5 @@
 -- Runs of idle bytes, from what the calls hand back.
-use mathlib.Core.Path.{_≡_, refl, sym, ap, _∙_}
-use mathlib.Core.Bool.{true, false}
-use mathlib.Core.List.{List, [], _∷_}
-use mathlib.Core.Logic.{_⊎_, inl, inr}
-use Prim.Native.Nat.{ℕ, zero, suc, _+_, _≤_}
-use native.Mathlib.Omega.{arith}
-use borrow.Author.Tests.{le-ltb, ne-eqb}
-use lib.ListN.{getD}
+use Rattle.coding_runs.specs.Prelude.{_≡_, refl, sym, ap, _∙_, true, false, List, [], _∷_, _⊎_, inl, inr, ℕ, zero, suc, _+_, _≤_, arith, le-ltb, ne-eqb, getD}
 use types.Run.{OneOf, miss}
 use denote.Enum.Declared.{tagOf}
 use Rattle.rules.proofs.Action.{the-type as the-action}

@@ -1,8 +1,5 @@
 -- Idle bytes: those that ask nothing of drawing and call no macro, one after the other
-use Prim.Native.Nat.{ℕ}
-use mathlib.Core.Bool.{Bool, true, false}
-use mathlib.Core.List.{List}
-use mathlib.Core.Path.{_≡_}
+use Rattle.coding_runs.specs.Prelude.{ℕ, Bool, true, false, List, _≡_}
 use Rattle.rules.specs.declared.Action.{Action}
 use Rattle.rules.specs.declared.Action.the-variants.{Idle as Idle·action, Close, Control, Character, Opcode, Data}
 use Rattle.rules.specs.declared.Coding.{Coding}

@@ -1,9 +1,5 @@
 -- Commands closed and opened in a run, with no operand begun.
-use Prim.Native.Nat.{ℕ, _+_, _≤_, _<_}
-use mathlib.Core.Path.{_≡_, refl, sym, _∙_}
-use mathlib.Core.List.{List}
-use lib.ListN.{length}
-use borrow.Author.Tests.{lt-ltb, le-ltb}
+use Rattle.command_runs.specs.Prelude.{ℕ, _+_, _≤_, _<_, _≡_, refl, sym, _∙_, List, length, lt-ltb, le-ltb}
 use Rattle.rules.specs.declared.Command.{Command}
 use Rattle.rules.specs.declared.Drawing.{Drawing}
 use Rattle.rules.specs.declared.Look.{Look}

@@ -1,10 +1,5 @@
 -- Points that come whole, in a run.
-use Prim.Native.Nat.{ℕ, _+_, _-_, _≤_}
-use native.Mathlib.Omega.{arith}
-use mathlib.Core.Path.{_≡_, refl, sym, ap, _∙_, subst}
-use mathlib.Core.Bool.{Bool, true, false}
-use mathlib.Core.List.{List}
-use lib.ListN.{length, take, drop}
+use Rattle.command_runs.specs.Prelude.{ℕ, _+_, _-_, _≤_, arith, _≡_, refl, sym, ap, _∙_, subst, Bool, true, false, List, length, take, drop}
 use Rattle.rules.specs.declared.Command.{Command}
 use Rattle.rules.specs.declared.Domain.{Domain}
 use Rattle.rules.specs.declared.Drawing.{Drawing}

@@ -1,6 +1,5 @@
 -- What a byte of the PDI set below 4/0 asks of drawing
-use Prim.Native.Nat.{ℕ}
-use lib.Dec.{ltb}
+use Rattle.command_runs.specs.Prelude.{ℕ, ltb}
 use Rattle.rules.specs.declared.Action.{Action}
 use Rattle.rules.specs.declared.Action.the-variants.{Control, Opcode}
 use Rattle.rules.specs.Choice.{pick}

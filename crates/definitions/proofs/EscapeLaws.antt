@@ -1,11 +1,5 @@
 -- Laws of ESC and another byte: the test made first tells how both end.
-use mathlib.Core.Path.{_≡_, refl, sym, ap, _∙_}
-use mathlib.Core.Bool.{Bool, true, false}
-use mathlib.Core.List.{List}
-use Prim.Native.Nat.{ℕ, suc, _<_, _≤_}
-use native.Mathlib.Omega.{arith}
-use borrow.Author.Tests.{eqb-true, eqb-false, ltb-true, ltb-false, ne-eqb}
-use lib.Dec.{eqb, ltb}
+use Rattle.definitions.specs.Prelude.{_≡_, refl, sym, ap, _∙_, Bool, true, false, List, ℕ, suc, _<_, _≤_, arith, eqb-true, eqb-false, ltb-true, ltb-false, ne-eqb, eqb, ltb}
 use Rattle.rules.specs.declared.Definition.{Definition}
 use Rattle.rules.specs.declared.Refusal.{Refusal}
 use Rattle.rules.specs.declared.Refusal.the-variants.{StoreFull, OutOfRange}

@@ -1,11 +1,5 @@
 -- Laws of runs: bytes laid into a cell whose count is then set are bytes stored one after the other.
-use mathlib.Core.Path.{_≡_, refl, ap, _∙_}
-use mathlib.Core.Bool.{true}
-use mathlib.Core.List.{List, [], _∷_}
-use Prim.Native.Nat.{ℕ, zero, suc, _+_, _*_, _<_, _≤_}
-use native.Mathlib.Omega.{arith}
-use lib.ListN.{length, getD, set}
-use lib.Seq.{set-getD}
+use Rattle.definitions.specs.Prelude.{_≡_, refl, ap, _∙_, true, List, [], _∷_, ℕ, zero, suc, _+_, _*_, _<_, _≤_, arith, length, getD, set, set-getD}
 use Rattle.rules.specs.Store.{countOf, setCount, goodCount, setBodyByte, Filling, Stored, storeInLast, storeByte}
 use Rattle.store.specs.Lent.{Sized}
 use Rattle.store.specs.Each.{none as each-none, more as each-more}

@@ -1,11 +1,5 @@
 -- Laws of storing a byte: the rule by its cases, and from what the calls hand back.
-use mathlib.Core.Path.{_≡_, sym, ap, _∙_}
-use mathlib.Core.Bool.{true, false}
-use mathlib.Core.List.{List}
-use Prim.Native.Nat.{ℕ, _+_, _<_, _≤_}
-use native.Mathlib.Numerals.{add-one}
-use borrow.Author.Tests.{eq-eqb, ne-eqb, lt-ltb, le-ltb}
-use lib.Dec.{eqb}
+use Rattle.definitions.specs.Prelude.{_≡_, sym, ap, _∙_, true, false, List, ℕ, _+_, _<_, _≤_, add-one, eq-eqb, ne-eqb, lt-ltb, le-ltb, eqb}
 use Rattle.rules.specs.declared.Definition.{Definition}
 use Rattle.rules.specs.declared.Refusal.{Refusal}
 use Rattle.rules.specs.declared.Refusal.the-variants.{StoreFull, OutOfRange}

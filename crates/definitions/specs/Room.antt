@@ -1,7 +1,5 @@
 -- Whether a new cell can be taken, and whether two bytes can be stored after the last cell
-use Prim.Native.Nat.{ℕ, _-_}
-use mathlib.Core.List.{List}
-use lib.Dec.{ltb, eqb}
+use Rattle.definitions.specs.Prelude.{ℕ, _-_, List, ltb, eqb}
 use Rattle.rules.specs.declared.Refusal.the-variants.{StoreFull, OutOfRange}
 use Rattle.rules.specs.Numbers.{mostBytes}
 use Rattle.rules.specs.Choice.{pick}

@@ -1,7 +1,5 @@
 -- An answer to storing a byte, with the first cells and the store left, as the rule has it
-use Prim.Native.Nat.{ℕ}
-use mathlib.Core.List.{List}
-use mathlib.Core.Path.{_≡_}
+use Rattle.definitions.specs.Prelude.{ℕ, List, _≡_}
 use Rattle.rules.specs.declared.Definition.{Definition}
 use Rattle.rules.specs.Store.{Filling, Storing, NotStored, Stored}
 use Rattle.definitions.specs.declared.appending.StoreAnswer.{StoreAnswer}

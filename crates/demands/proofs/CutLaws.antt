@@ -1,12 +1,5 @@
 -- One feed call more after a list of them, and what the list then comes to
-use Prim.Native.Nat.{ℕ, zero, suc, _+_, _-_, _≤_, _<_, min}
-use native.Mathlib.Nat.{add-zero, zero-min, min-zero, suc-min-suc}
-use native.Mathlib.Numerals.{add-one}
-use native.Mathlib.Omega.{arith}
-use mathlib.Core.Path.{_≡_, refl, sym, ap, ap₂, _∙_, subst}
-use mathlib.Core.List.{List, [], _∷_, _++_, append-assoc}
-use lib.ListN.{length, getD, take, drop, length-append, length-drop, length-take, take-append-drop, drop-of-length-le}
-use lib.Seq.{take-append-seam, drop-append-seam, drop-append-le, drop-append-add, drop-drop, drop-cons, getD-drop, take-add, length-take-le}
+use Rattle.demands.specs.Prelude.{ℕ, zero, suc, _+_, _-_, _≤_, _<_, min, add-zero, zero-min, min-zero, suc-min-suc, add-one, arith, _≡_, refl, sym, ap, ap₂, _∙_, subst, List, [], _∷_, _++_, append-assoc, length, getD, take, drop, length-append, length-drop, length-take, take-append-drop, drop-of-length-le, take-append-seam, drop-append-seam, drop-append-le, drop-append-add, drop-drop, drop-cons, getD-drop, take-add, length-take-le}
 use Rattle.rules.specs.declared.Answer.the-variants.{Done, Full}
 use Rattle.rules.specs.Step.{State, removeSpent, NothingLeft, seek, Some, stateLent}
 use Rattle.rules.specs.Reading.{Reading, Room, Steps, rests, readTo, undivided}

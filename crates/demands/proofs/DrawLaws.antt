@@ -1,13 +1,5 @@
 -- A page opened, read by feed calls and ended
-use Prim.Native.Nat.{ℕ, _+_, _-_, _≤_}
-use native.Mathlib.Omega.{arith}
-use mathlib.Core.Path.{_≡_, refl, sym, ap, _∙_, subst}
-use mathlib.Core.Bool.{Bool, true, false, _&&_}
-use mathlib.Core.List.{List, _++_, append-nil}
-use lib.ListN.{length, take, drop, length-take, length-drop, drop-of-length-le}
-use lib.Seq.{take-append-seam, drop-append-seam, take-append-add, take-all}
-use lib.Dec.{ltb, eqb}
-use borrow.Author.Tests.{eq-eqb}
+use Rattle.demands.specs.Prelude.{ℕ, _+_, _-_, _≤_, arith, _≡_, refl, sym, ap, _∙_, subst, Bool, true, false, _&&_, List, _++_, append-nil, length, take, drop, length-take, length-drop, drop-of-length-le, take-append-seam, drop-append-seam, take-append-add, take-all, ltb, eqb, eq-eqb}
 use borrow.Rule.Slice.PartMut.{putMid}
 use Rattle.rules.specs.declared.Refusal.the-variants.{StoreSize}
 use Rattle.rules.specs.declared.Answer.{Answer}

@@ -1,8 +1,5 @@
 -- A page cut into feed calls: what one call more comes to, and what the calls come to together
-use Prim.Native.Nat.{ℕ, _+_, _-_, _≤_, min}
-use mathlib.Core.Path.{_≡_}
-use mathlib.Core.List.{List, [], _∷_, _++_}
-use lib.ListN.{length, getD, take, drop}
+use Rattle.demands.specs.Prelude.{ℕ, _+_, _-_, _≤_, min, _≡_, List, [], _∷_, _++_, length, getD, take, drop}
 use Rattle.rules.specs.declared.Answer.the-variants.{Done, Full}
 use Rattle.rules.specs.Step.{State, removeSpent, NothingLeft, seek}
 use Rattle.rules.specs.Reading.{Steps, rests, readTo, undivided}

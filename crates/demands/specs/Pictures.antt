@@ -1,8 +1,5 @@
 -- A page opened, read by feed calls and ended: the calls, and the picture that they draw
-use Prim.Native.Nat.{ℕ, _+_, _≤_}
-use mathlib.Core.Path.{_≡_}
-use mathlib.Core.List.{List, _++_}
-use lib.ListN.{length, take, drop}
+use Rattle.demands.specs.Prelude.{ℕ, _+_, _≤_, _≡_, List, _++_, length, take, drop}
 use Rattle.rules.specs.declared.Answer.{Answer}
 use Rattle.rules.specs.declared.Answer.the-variants.{Done, Full, Refused}
 use Rattle.rules.specs.Numbers.{storeSize}

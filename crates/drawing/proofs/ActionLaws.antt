@@ -1,10 +1,5 @@
 -- Records of the drawing point and the opening of a command, carried out.
-use Prim.Native.Nat.{ℕ, _+_}
-use mathlib.Core.Path.{_≡_}
-use mathlib.Core.Bool.{false}
-use mathlib.Core.List.{List, [], _∷_, _++_}
-use lib.ListN.{set}
-use borrow.Author.Tests.{eq-eqb, ne-eqb}
+use Rattle.drawing.proofs.Prelude.{ℕ, _+_, _≡_, false, List, [], _∷_, _++_, set, eq-eqb, ne-eqb}
 use Rattle.rules.specs.declared.Command.{Command}
 use Rattle.rules.specs.declared.Row.{Row}
 use Rattle.rules.specs.declared.Look.{Look}

@@ -1,10 +1,5 @@
 -- What a drawing state in range has.
-use Prim.Native.Nat.{ℕ, _≤_, _<_}
-use native.Mathlib.Omega.{arith}
-use mathlib.Core.Path.{_≡_}
-use mathlib.Core.Bool.{true, _&&_}
-use lib.Dec.{leb, eqb}
-use borrow.Author.Tests.{ltb-true, leb-true, eqb-true}
+use Rattle.drawing.proofs.Prelude.{ℕ, _≤_, _<_, arith, _≡_, true, _&&_, leb, eqb, ltb-true, leb-true, eqb-true}
 use Rattle.rules.specs.declared.Domain.{Domain}
 use Rattle.rules.specs.declared.Drawing.{Drawing}
 use Rattle.rules.specs.declared.Role.{Role}

@@ -1,9 +1,5 @@
 -- The drawing rules refuse with TooManyVertices only; closing refuses before it finishes.
-use mathlib.Core.Path.{_≡_, refl}
-use mathlib.Core.Bool.{Bool}
-use mathlib.Core.List.{List}
-use Prim.Native.Nat.{ℕ, suc}
-use lib.Dec.{ltb, eqb}
+use Rattle.drawing.proofs.Prelude.{_≡_, refl, Bool, List, ℕ, suc, ltb, eqb}
 use Rattle.rules.specs.declared.Action.{Action}
 use Rattle.rules.specs.declared.Action.the-variants.{Idle, Close, Control, Character, Opcode, Data}
 use Rattle.rules.specs.declared.Mode.{Mode}

@@ -1,12 +1,5 @@
 -- Bytes that ask an action of drawing.
-use Prim.Native.Nat.{ℕ, _≤_, _<_}
-use native.Mathlib.Omega.{arith}
-use mathlib.Core.Path.{_≡_, sym, ap, _∙_}
-use mathlib.Core.Bool.{Bool, true, false}
-use mathlib.Core.List.{List}
-use lib.ListN.{getD}
-use lib.Dec.{ltb}
-use borrow.Author.Tests.{lt-ltb, le-ltb}
+use Rattle.drawing_runs.specs.Prelude.{ℕ, _≤_, _<_, arith, _≡_, sym, ap, _∙_, Bool, true, false, List, getD, ltb, lt-ltb, le-ltb}
 use Rattle.rules.specs.declared.Action.{Action}
 use Rattle.rules.specs.declared.Action.the-variants.{Control as Control·action, Opcode, Data}
 use Rattle.rules.specs.declared.Class.{Class}

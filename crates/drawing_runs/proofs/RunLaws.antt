@@ -1,13 +1,5 @@
 -- Runs over operands that come whole.
-use Prim.Native.Nat.{ℕ, zero, suc, _+_, _≤_, _<_}
-use native.Mathlib.Nat.{add-assoc, add-suc, add-zero}
-use native.Mathlib.Omega.{arith}
-use mathlib.Core.Path.{_≡_, refl, sym, ap, _∙_, subst}
-use mathlib.Core.Bool.{true, false}
-use mathlib.Core.List.{List, [], _∷_, _++_, append-nil}
-use lib.ListN.{length, getD, set, take, drop, length-set, length-drop}
-use lib.Seq.{take-suc, take-suc-set, getD-drop, getD-take, length-take-le}
-use borrow.Author.Tests.{lt-ltb, le-ltb, ne-eqb}
+use Rattle.drawing_runs.specs.Prelude.{ℕ, zero, suc, _+_, _≤_, _<_, add-assoc, add-suc, add-zero, arith, _≡_, refl, sym, ap, _∙_, subst, true, false, List, [], _∷_, _++_, append-nil, length, getD, set, take, drop, length-set, length-drop, take-suc, take-suc-set, getD-drop, getD-take, length-take-le, lt-ltb, le-ltb, ne-eqb}
 use Rattle.rules.specs.declared.Action.the-variants.{Data}
 use Rattle.rules.specs.declared.Drawing.{Drawing}
 use Rattle.rules.specs.declared.Operand.{Operand}

@@ -1,11 +1,5 @@
 -- Runs of POINT SET and LINE to points of three bytes in two dimensions.
-use Prim.Native.Nat.{ℕ, zero, suc, _+_, _*_, _-_, _≤_}
-use native.Mathlib.Omega.{arith}
-use mathlib.Core.Path.{_≡_, refl, sym, ap, _∙_, subst}
-use mathlib.Core.Bool.{Bool, true, false, not, _&&_}
-use mathlib.Core.List.{List, [], _∷_, _++_}
-use lib.ListN.{length, take, drop}
-use lib.Dec.{eqb}
+use Rattle.drawing_runs.specs.Prelude.{ℕ, zero, suc, _+_, _*_, _-_, _≤_, arith, _≡_, refl, sym, ap, _∙_, subst, Bool, true, false, not, _&&_, List, [], _∷_, _++_, length, take, drop, eqb}
 use Rattle.rules.specs.declared.Command.{Command}
 use Rattle.rules.specs.declared.Due.the-variants.{First}
 use Rattle.rules.specs.declared.Drawing.{Drawing}

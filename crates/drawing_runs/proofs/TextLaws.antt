@@ -1,13 +1,5 @@
 -- Runs of characters
-use mathlib.Core.Path.{_≡_, refl, sym, ap, _∙_, subst}
-use mathlib.Core.Bool.{false}
-use mathlib.Core.List.{List, [], _∷_, _++_}
-use Prim.Native.Nat.{ℕ, zero, suc, _+_, _*_, _≤_}
-use native.Mathlib.Nat.{add-zero}
-use native.Mathlib.Numerals.{add-one}
-use native.Mathlib.Omega.{arith}
-use lib.ListN.{length, getD, set}
-use borrow.Author.Tests.{ne-eqb}
+use Rattle.drawing_runs.specs.Prelude.{_≡_, refl, sym, ap, _∙_, subst, false, List, [], _∷_, _++_, ℕ, zero, suc, _+_, _*_, _≤_, add-zero, add-one, arith, length, getD, set, ne-eqb}
 use Rattle.rules.specs.declared.Action.the-variants.{Character}
 use Rattle.rules.specs.declared.Command.{Command}
 use Rattle.rules.specs.declared.Drawing.{Drawing}

@@ -1,9 +1,5 @@
 -- Operands of three bytes in two dimensions, of a command that goes to each point read
-use Prim.Native.Nat.{ℕ, zero, suc, _+_, _≤_}
-use mathlib.Core.Bool.{false}
-use mathlib.Core.List.{List}
-use mathlib.Core.Path.{_≡_}
-use lib.ListN.{length}
+use Rattle.drawing_runs.specs.Prelude.{ℕ, zero, suc, _+_, _≤_, false, List, _≡_, length}
 use Rattle.rules.specs.declared.Command.{Command}
 use Rattle.rules.specs.declared.Due.the-variants.{First}
 use Rattle.rules.specs.declared.Look.{Look}

@@ -1,6 +1,5 @@
 -- Runs of characters
-use Prim.Native.Nat.{ℕ, zero, suc, _+_, _*_}
-use mathlib.Core.List.{List}
+use Rattle.drawing_runs.specs.Prelude.{ℕ, zero, suc, _+_, _*_, List}
 use Rattle.rules.specs.declared.Command.{Command}
 use Rattle.rules.specs.declared.Look.{Look}
 use Rattle.rules.specs.declared.Operand.{Operand}

@@ -1,11 +1,5 @@
 -- Outcomes carried out
-use mathlib.Core.Path.{_≡_, refl, sym, ap, _∙_}
-use mathlib.Core.Bool.{true, false}
-use mathlib.Core.List.{List, [], _∷_, append-nil}
-use Prim.Native.Nat.{ℕ, _+_, _*_, _≤_}
-use native.Mathlib.Nat.{add-zero, add-assoc}
-use native.Mathlib.Omega.{arith}
-use lib.ListN.{length, length-append}
+use Rattle.figures.specs.Prelude.{_≡_, refl, sym, ap, _∙_, true, false, List, [], _∷_, append-nil, ℕ, _+_, _*_, _≤_, add-zero, add-assoc, arith, length, length-append}
 use Rattle.rules.specs.declared.Drawing.{Drawing}
 use Rattle.rules.specs.declared.Record.{Record}
 use Rattle.rules.specs.Record.{bytesOf, bytesOfAll}

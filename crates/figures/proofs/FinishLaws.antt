@@ -1,11 +1,7 @@
 -- Figures that finish commands, as the rules draw them.
-use Prim.Native.Nat.{ℕ, _≤_, _<_}
-use mathlib.Core.Path.{_≡_, refl}
-use mathlib.Core.Bool.{Bool, true, false}
-use mathlib.Core.List.{List, [], _∷_}
+use Rattle.figures.specs.Prelude.{ℕ, _≤_, _<_, _≡_, refl, Bool, true, false, List, [], _∷_, lt-ltb, le-ltb}
 use types.Run.{OneOf, miss}
 use denote.Enum.Declared.{tagOf}
-use borrow.Author.Tests.{lt-ltb, le-ltb}
 use Rattle.rules.proofs.Role.{the-type as the-role}
 use Rattle.rules.specs.declared.Command.{Command}
 use Rattle.rules.specs.declared.Drawing.{Drawing}

@@ -1,12 +1,7 @@
 -- Figures of points, as the rules draw them.
-use Prim.Native.Nat.{ℕ, suc, _+_, _<_}
-use mathlib.Core.Path.{_≡_, refl, sym, ap}
-use mathlib.Core.Bool.{Bool, true, false}
-use mathlib.Core.List.{List, [], _∷_, _++_}
-use lib.ListN.{set}
+use Rattle.figures.specs.Prelude.{ℕ, suc, _+_, _<_, _≡_, refl, sym, ap, Bool, true, false, List, [], _∷_, _++_, set, eq-eqb, ne-eqb, ltb-true}
 use types.Run.{OneOf, miss}
 use denote.Enum.Declared.{tagOf}
-use borrow.Author.Tests.{eq-eqb, ne-eqb, ltb-true}
 use Rattle.rules.proofs.Role.{the-type as the-role}
 use Rattle.rules.specs.declared.Command.{Command}
 use Rattle.rules.specs.declared.Drawing.{Drawing}

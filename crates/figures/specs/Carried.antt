@@ -1,9 +1,5 @@
 -- An outcome of the drawing rules carried out on an output
-use Prim.Native.Nat.{ℕ, _+_}
-use mathlib.Core.Bool.{Bool, true, false}
-use mathlib.Core.List.{List}
-use mathlib.Core.Path.{_≡_}
-use lib.ListN.{length}
+use Rattle.figures.specs.Prelude.{ℕ, _+_, Bool, true, false, List, _≡_, length}
 use Rattle.rules.specs.declared.Point.{Point}
 use Rattle.rules.specs.declared.Pen.{Pen}
 use Rattle.rules.specs.declared.Command.{Command}

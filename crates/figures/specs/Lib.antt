@@ -1,2 +1,3 @@
+pub mod Prelude
 pub mod Carried
 pub mod Tracing

@@ -1,9 +1,5 @@
 -- Points applied and commands finished: the figure of each, whatever the look
-use Prim.Native.Nat.{ℕ}
-use mathlib.Core.Bool.{Bool, true, false, _||_}
-use mathlib.Core.List.{List, [], _∷_}
-use mathlib.Core.Path.{_≡_}
-use lib.Dec.{ltb, eqb}
+use Rattle.figures.specs.Prelude.{ℕ, Bool, true, false, _||_, List, [], _∷_, _≡_, ltb, eqb}
 use Rattle.rules.specs.declared.Command.{Command}
 use Rattle.rules.specs.declared.Drawing.{Drawing}
 use Rattle.rules.specs.declared.Look.{Look}

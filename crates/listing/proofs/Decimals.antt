@@ -1,13 +1,5 @@
 -- Numbers in decimal
-use mathlib.Core.Path.{_≡_, refl, ap, _∙_}
-use mathlib.Core.Bool.{Bool, true, false}
-use mathlib.Core.List.{List, [], _∷_, _++_, append-assoc}
-use Prim.Native.Nat.{ℕ, zero, suc, _+_, _/_, _%_, _^_, _≤_, _<_}
-use native.Mathlib.Nat.{pow-suc, div-lt-iff-lt-mul}
-use native.Mathlib.Omega.{arith}
-use borrow.Author.Tests.{lt-ltb, le-ltb, ltb-false}
-use lib.ListN.{length, length-append}
-use lib.Dec.{ltb}
+use Rattle.listing.specs.Prelude.{_≡_, refl, ap, _∙_, Bool, true, false, List, [], _∷_, _++_, append-assoc, ℕ, zero, suc, _+_, _/_, _%_, _^_, _≤_, _<_, pow-suc, div-lt-iff-lt-mul, arith, lt-ltb, le-ltb, ltb-false, length, length-append, ltb}
 use Rattle.rules.specs.Choice.{pick}
 use Rattle.listing.specs.Text.{decimalTo, decimal, twoDigits, fourDigits}
 

@@ -1,11 +1,5 @@
 -- Text put at a place
-use mathlib.Core.Path.{_≡_, refl, sym, ap, _∙_}
-use mathlib.Core.List.{List, [], _∷_, _++_, append-nil}
-use Prim.Native.Nat.{ℕ, suc, _+_, _*_, _-_, _/_, _≤_, _<_, min}
-use native.Mathlib.Nat.{min-le-right, le-div-iff-mul-le}
-use native.Mathlib.Omega.{arith}
-use lib.ListN.{length, set, take, drop, length-append, length-drop, drop-of-length-le}
-use lib.Seq.{take-length, take-all, drop-drop, length-take-le}
+use Rattle.listing.specs.Prelude.{_≡_, refl, sym, ap, _∙_, List, [], _∷_, _++_, append-nil, ℕ, suc, _+_, _*_, _-_, _/_, _≤_, _<_, min, min-le-right, le-div-iff-mul-le, arith, length, set, take, drop, length-append, length-drop, drop-of-length-le, take-length, take-all, drop-drop, length-take-le}
 use Rattle.io.specs.Counts.{Counts}
 use Rattle.records.specs.Bytes.{overwrite}
 use Rattle.records.proofs.Writes.{stored, then, overwrite-none}

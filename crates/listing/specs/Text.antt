@@ -1,9 +1,5 @@
 -- Records as lines of text
-use Prim.Native.Nat.{ℕ, zero, suc, _+_, _*_, _-_, _/_, _%_}
-use mathlib.Core.Path.{_≡_}
-use mathlib.Core.List.{List, [], _∷_, _++_}
-use lib.ListN.{getD, length, take, drop}
-use lib.Dec.{ltb}
+use Rattle.listing.specs.Prelude.{ℕ, zero, suc, _+_, _*_, _-_, _/_, _%_, _≡_, List, [], _∷_, _++_, getD, length, take, drop, ltb}
 use Rattle.rules.specs.Choice.{pick}
 use Rattle.records.specs.Bytes.{overwrite}
 

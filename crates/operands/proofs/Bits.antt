@@ -1,11 +1,5 @@
 -- The number that `fromTop` makes of bits, and the bits that bytes give
-use mathlib.Core.Path.{_≡_, refl, sym, ap, _∙_}
-use mathlib.Core.List.{List, [], _∷_, _++_, append-assoc}
-use Prim.Native.Nat.{ℕ, zero, suc, _+_, _*_, _-_, _/_, _%_, _^_, _≤_, _<_}
-use native.Mathlib.Nat.{zero-add, add-assoc, zero-sub, sub-zero, suc-sub-suc, suc-add, zero-mul, mul-zero, mul-assoc, add-mul, mod-lt, mod-one, zero-div, mul-le-mul-right}
-use native.Mathlib.Omega.{arith}
-use lib.ListN.{length, length-append, replicate}
-use lib.Pow.{pow-add, pow-pos, mod-pow-add, shr-shr}
+use Rattle.operands.specs.Prelude.{_≡_, refl, sym, ap, _∙_, List, [], _∷_, _++_, append-assoc, ℕ, zero, suc, _+_, _*_, _-_, _/_, _%_, _^_, _≤_, _<_, zero-add, add-assoc, zero-sub, sub-zero, suc-sub-suc, suc-add, zero-mul, mul-zero, mul-assoc, add-mul, mod-lt, mod-one, zero-div, mul-le-mul-right, arith, length, length-append, replicate, pow-add, pow-pos, mod-pow-add, shr-shr}
 use Rattle.rules.specs.Operands.{bit, bitsOf, fromTop}
 
 -- No bits

@@ -1,14 +1,5 @@
 -- An operand's point byte by byte, and the parts of its bytes that addresses, colours and lengths are
-use mathlib.Core.Path.{_≡_, refl, sym, _∙_}
-use mathlib.Core.Bool.{Bool, true, false}
-use mathlib.Core.List.{List, [], _∷_, _++_, append-nil}
-use Prim.Native.Nat.{ℕ, zero, suc, _+_, _*_, _-_, _/_, _%_, _^_, _<_}
-use native.Mathlib.Nat.{add-zero, zero-mul, div-one, mod-eq-of-lt}
-use native.Mathlib.Numerals.{add-one}
-use native.Mathlib.Omega.{arith}
-use lib.Dec.{eqb}
-use lib.ListN.{length, getD, take, drop, replicate}
-use lib.Seq.{take-suc, length-take-le}
+use Rattle.operands.specs.Prelude.{_≡_, refl, sym, _∙_, Bool, true, false, List, [], _∷_, _++_, append-nil, ℕ, zero, suc, _+_, _*_, _-_, _/_, _%_, _^_, _<_, add-zero, zero-mul, div-one, mod-eq-of-lt, add-one, arith, eqb, length, getD, take, drop, replicate, take-suc, length-take-le}
 use Rattle.rules.specs.declared.Point.{Point}
 use Rattle.rules.specs.Operands.{bit, xBits, yBits, greenBits, redBits, blueBits, bitsOf, fromTop, point, address, wrappedSum}
 use Rattle.rules.specs.Drawing.{domainOf}

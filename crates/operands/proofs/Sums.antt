@@ -1,11 +1,5 @@
 -- The code's test on patterns is the rule's test on signed numbers, by the signs of the summands; and a sum in range is exact
-use mathlib.Core.Path.{_≡_, refl, sym, ap, _∙_}
-use mathlib.Core.Bool.{Bool, true, false, not, cond, _&&_}
-use Prim.Native.Nat.{ℕ, suc, _+_, _-_, _/_, _^_, _≤_, _<_}
-use native.Mathlib.Omega.{arith}
-use borrow.Author.Tests.{lt-ltb, le-ltb, le-leb, lt-leb, ltb-true, ltb-false, leb-true, leb-false, eq-eqb, ne-eqb}
-use lib.Dec.{ltb, leb, eqb}
-use lib.IntN.{pos, negsuc, subℕ, _+ℤ_, +ℤ-comm}
+use Rattle.operands.specs.Prelude.{_≡_, refl, sym, ap, _∙_, Bool, true, false, not, cond, _&&_, ℕ, suc, _+_, _-_, _/_, _^_, _≤_, _<_, arith, lt-ltb, le-ltb, le-leb, lt-leb, ltb-true, ltb-false, leb-true, leb-false, eq-eqb, ne-eqb, ltb, leb, eqb, pos, negsuc, subℕ, _+ℤ_, +ℤ-comm}
 use Rattle.rules.specs.Operands.{signed, inRange, wrappedSum, leavesRange}
 use Rattle.rules.proofs.Bools.{by-test, by-truth}
 

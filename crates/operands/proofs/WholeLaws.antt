@@ -1,15 +1,5 @@
 -- Operands whose bytes have all come
-use mathlib.Core.Path.{_≡_, refl, sym, ap, _∙_}
-use mathlib.Core.Bool.{Bool, true, false, not, _&&_}
-use mathlib.Core.List.{List, [], _∷_, _++_}
-use Prim.Native.Nat.{ℕ, zero, suc, _+_, _*_, _/_, _%_, _≤_, _<_}
-use native.Mathlib.Nat.{le-of-suc-le-suc, not-suc-le-zero}
-use native.Mathlib.Numerals.{add-one}
-use native.Mathlib.Omega.{arith}
-use lib.Dec.{leb, eqb}
-use lib.ListN.{length, getD, take, drop, length-drop}
-use lib.Seq.{take-suc, drop-cons, getD-drop, length-take-le, getD-take}
-use borrow.Author.Tests.{leb-true, leb-false, eq-eqb, ne-eqb, eqb-true, not-true}
+use Rattle.operands.specs.Prelude.{_≡_, refl, sym, ap, _∙_, Bool, true, false, not, _&&_, List, [], _∷_, _++_, ℕ, zero, suc, _+_, _*_, _/_, _%_, _≤_, _<_, le-of-suc-le-suc, not-suc-le-zero, add-one, arith, leb, eqb, length, getD, take, drop, length-drop, take-suc, drop-cons, getD-drop, length-take-le, getD-take, leb-true, leb-false, eq-eqb, ne-eqb, eqb-true, not-true}
 use Rattle.rules.specs.declared.Point.{Point}
 use Rattle.rules.specs.Operands.{bitsOf, fromTop, point}
 use Rattle.rules.proofs.Bools.{true-false, and-left, and-right, and-both, by-test, pick-yes, pick-no}

@@ -1,9 +1,5 @@
 -- Operands whose bytes have all come
-use Prim.Native.Nat.{ℕ, _+_, _*_}
-use mathlib.Core.Bool.{Bool, true, _&&_}
-use mathlib.Core.List.{List, [], _∷_}
-use lib.Dec.{leb}
-use lib.ListN.{getD}
+use Rattle.operands.specs.Prelude.{ℕ, _+_, _*_, Bool, true, _&&_, List, [], _∷_, leb, getD}
 use Rattle.rules.specs.Choice.{pick}
 use Rattle.rules.specs.Operands.{point}
 use Rattle.operands.specs.declared.whole.Whole.{Whole}

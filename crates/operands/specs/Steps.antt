@@ -1,6 +1,5 @@
 -- An operand's point byte by byte, and the bits of a colour
-use Prim.Native.Nat.{ℕ, _+_, _*_, _-_, _/_, _%_}
-use mathlib.Core.Bool.{Bool, true, false}
+use Rattle.operands.specs.Prelude.{ℕ, _+_, _*_, _-_, _/_, _%_, Bool, true, false}
 use Rattle.rules.specs.declared.Point.{Point}
 use Rattle.rules.specs.Operands.{xBits, yBits, fromTop, wrappedSum}
 

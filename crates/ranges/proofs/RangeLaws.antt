@@ -1,15 +1,8 @@
 -- What is in range, part by part
-use mathlib.Core.Path.{_≡_, refl, sym, _∙_}
-use mathlib.Core.Bool.{Bool, true, false, _&&_}
-use mathlib.Core.List.{List, [], _∷_}
-use Prim.Native.Nat.{ℕ, _+_, _<_, _≤_}
-use native.Mathlib.Numerals.{add-one}
-use borrow.Author.Tests.{le-leb, lt-leb}
+use Rattle.ranges.specs.Prelude.{_≡_, refl, sym, _∙_, Bool, true, false, _&&_, List, [], _∷_, ℕ, _+_, _<_, _≤_, add-one, le-leb, lt-leb, length, getD, drop, drop-of-length-le, drop-cons}
 use types.Run.{OneOf, miss}
 use denote.Enum.Declared.{tagOf}
 use Rattle.rules.proofs.Waiting.{the-type as the-waiting}
-use lib.ListN.{length, getD, drop, drop-of-length-le}
-use lib.Seq.{drop-cons}
 use Rattle.rules.specs.declared.Waiting.{Waiting}
 use Rattle.rules.specs.declared.Waiting.the-variants.{Nothing, Shifted, Escape, Designator, Longer, Name, Body, BodyEscape}
 use Rattle.rules.specs.Ranges.{placesFit, waitingFits}

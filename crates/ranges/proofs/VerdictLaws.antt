@@ -1,6 +1,5 @@
 -- The tests before a feed or an end, by their outcomes
-use mathlib.Core.Path.{_≡_, refl, _∙_}
-use mathlib.Core.Bool.{Bool, true, false, _&&_}
+use Rattle.ranges.specs.Prelude.{_≡_, refl, _∙_, Bool, true, false, _&&_}
 use Rattle.rules.specs.declared.Session.{Session}
 use Rattle.rules.specs.declared.Status.{Status}
 use Rattle.rules.specs.declared.Status.the-variants.{Running, Ended, Stopped}

@@ -1,12 +1,5 @@
 -- Closing carried out, and what end hands over
-use Prim.Native.Nat.{ℕ, _≤_, _<_}
-use native.Mathlib.Nat.{zero-add}
-use mathlib.Core.Path.{_≡_, refl, sym, ap, _∙_}
-use mathlib.Core.Bool.{true, false, _&&_, and-false}
-use mathlib.Core.List.{List}
-use lib.ListN.{length}
-use lib.Dec.{ltb}
-use borrow.Author.Tests.{ne-eqb, lt-ltb, le-ltb}
+use Rattle.reader.specs.Prelude.{ℕ, _≤_, _<_, zero-add, _≡_, refl, sym, ap, _∙_, true, false, _&&_, and-false, List, length, ltb, ne-eqb, lt-ltb, le-ltb}
 use Rattle.rules.specs.declared.Action.the-variants.{Close}
 use Rattle.rules.specs.declared.Refusal.{Refusal}
 use Rattle.rules.specs.declared.Refusal.the-variants.{TooManyVertices, EndInside, BodyBytesLeft}

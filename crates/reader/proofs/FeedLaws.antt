@@ -1,13 +1,5 @@
 -- Feed, by the outcome of the tests; and of what is unread of a piece
-use mathlib.Core.Path.{_≡_, refl, sym, ap, _∙_, subst}
-use mathlib.Core.Bool.{Bool, true, false}
-use mathlib.Core.List.{List}
-use Prim.Native.Nat.{ℕ, _-_, min}
-use native.Mathlib.Omega.{arith}
-use lib.Dec.{leb}
-use lib.ListN.{length, take, drop, length-drop, drop-of-length-le}
-use lib.Seq.{take-all}
-use borrow.Author.Tests.{leb-true, leb-false}
+use Rattle.reader.specs.Prelude.{_≡_, refl, sym, ap, _∙_, subst, Bool, true, false, List, ℕ, _-_, min, arith, leb, length, take, drop, length-drop, drop-of-length-le, take-all, leb-true, leb-false}
 use Rattle.rules.specs.declared.Refusal.{Refusal}
 use Rattle.rules.specs.declared.Session.{Session}
 use Rattle.rules.specs.declared.Verdict.{Verdict}

@@ -1,10 +1,5 @@
 -- A piece fed from its consumed position on, call after call, reads as the undivided reading does
-use mathlib.Core.Path.{_≡_, refl, sym, ap, ap₂, _∙_, subst}
-use mathlib.Core.List.{List, []}
-use Prim.Native.Nat.{ℕ, _+_, _≤_, _<_}
-use native.Mathlib.Omega.{arith}
-use lib.ListN.{length, drop, length-drop}
-use lib.Seq.{drop-drop}
+use Rattle.reader.specs.Prelude.{_≡_, refl, sym, ap, ap₂, _∙_, subst, List, [], ℕ, _+_, _≤_, _<_, arith, length, drop, length-drop, drop-drop}
 use Rattle.rules.specs.declared.Answer.{Answer}
 use Rattle.rules.specs.declared.Answer.the-variants.{Done, Full, Refused}
 use Rattle.rules.specs.Numbers.{roomForStep}

@@ -1,8 +1,6 @@
 -- The number of an answer follows from all that is handed over; `number-tells` and `shade-tells` (rules, Numbers) say that it
 -- determines the answer
-use Prim.Native.Nat.{ℕ}
-use mathlib.Core.Path.{_≡_, ap}
-use mathlib.Core.List.{List}
+use Rattle.reader.specs.Prelude.{ℕ, _≡_, ap, List}
 use Rattle.rules.specs.declared.Session.{Session}
 use Rattle.rules.specs.declared.Shade.{Shade}
 use Rattle.rules.specs.Step.{State}

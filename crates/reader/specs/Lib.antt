@@ -1,2 +1,3 @@
+pub mod Prelude
 pub mod Ending
 pub mod PieceRead

@@ -1,7 +1,5 @@
 -- A piece fed until it is read or a step is refused, each call lent what the one before left unread
-use mathlib.Core.Path.{_≡_}
-use mathlib.Core.List.{List}
-use Prim.Native.Nat.{ℕ}
+use Rattle.reader.specs.Prelude.{_≡_, List, ℕ}
 use Rattle.rules.specs.declared.Answer.{Answer}
 use Rattle.rules.specs.declared.Answer.the-variants.{Done, Full, Refused}
 use Rattle.rules.specs.Step.{State}

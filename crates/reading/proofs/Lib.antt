@@ -1,3 +1,4 @@
+pub mod Prelude
 pub mod Whole
 pub mod WalkLaws
 pub mod ReadLaws

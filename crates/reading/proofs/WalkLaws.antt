@@ -1,8 +1,5 @@
 -- What is kept along a walk
-use Prim.Native.Nat.{ℕ, _-_}
-use mathlib.Core.Path.{_∙_}
-use mathlib.Core.List.{List}
-use lib.ListN.{length, drop}
+use Rattle.reading.proofs.Prelude.{ℕ, _-_, _∙_, List, length, drop}
 use Rattle.rules.specs.Reading.{Room}
 use Rattle.rules.specs.Step.{State, removeSpent}
 use Rattle.rules.proofs.Readings.{reading-removed}

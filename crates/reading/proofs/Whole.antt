@@ -1,14 +1,5 @@
 -- What the loop of a reading keeps: the whole is what was read so far, and then the reading from here
-use Prim.Native.Nat.{ℕ, suc, _+_, _-_, _≤_, _<_}
-use native.Mathlib.Nat.{add-zero, zero-add, sub-zero, add-suc, suc-add}
-use native.Mathlib.Numerals.{add-one}
-use native.Mathlib.Omega.{arith}
-use mathlib.Core.Path.{_≡_, refl, sym, ap, _∙_, subst}
-use mathlib.Core.List.{List, _++_, append-nil, append-assoc}
-use lib.ListN.{length, take, drop, length-append, take-append-drop}
-use lib.Dec.{ltb}
-use borrow.Author.Tests.{ltb-false}
-use lib.Seq.{take-at, drop-at, length-take-le, drop-drop}
+use Rattle.reading.proofs.Prelude.{ℕ, suc, _+_, _-_, _≤_, _<_, add-zero, zero-add, sub-zero, add-suc, suc-add, add-one, arith, _≡_, refl, sym, ap, _∙_, subst, List, _++_, append-nil, append-assoc, length, take, drop, length-append, take-append-drop, ltb, ltb-false, take-at, drop-at, length-take-le, drop-drop}
 use Rattle.rules.specs.declared.Answer.{Answer}
 use Rattle.rules.specs.Numbers.{roomForStep}
 use Rattle.rules.specs.Record.{bytesOfAll}

@@ -1,6 +1,5 @@
 -- The mode and the colour bytes of a record
-use mathlib.Core.Path.{_≡_, sym}
-use Prim.Native.Nat.{ℕ}
+use Rattle.records.specs.Prelude.{_≡_, sym, ℕ}
 use Rattle.rules.specs.declared.Colour.{Colour}
 use Rattle.rules.specs.declared.Mode.{Mode}
 use Rattle.rules.specs.Record.{modeNumber, colour0, colour1, colour2}

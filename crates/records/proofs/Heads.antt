@@ -1,9 +1,5 @@
 -- The first eight bytes of a record as two numbers
-use mathlib.Core.Path.{_≡_, ap, _∙_}
-use mathlib.Core.List.{List, [], _∷_, _++_}
-use Prim.Native.Nat.{ℕ, _+_, _*_, _/_, _%_, _≤_}
-use native.Mathlib.Omega.{arith}
-use lib.ListN.{set}
+use Rattle.records.specs.Prelude.{_≡_, ap, _∙_, List, [], _∷_, _++_, ℕ, _+_, _*_, _/_, _%_, _≤_, arith, set}
 use Rattle.rules.specs.declared.Look.{Look}
 use Rattle.rules.specs.declared.Point.{Point}
 use Rattle.rules.specs.declared.Record.{Record}

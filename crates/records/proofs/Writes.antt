@@ -1,11 +1,5 @@
 -- Bytes written at a place of the output
-use mathlib.Core.Path.{_≡_, ap, _∙_}
-use mathlib.Core.List.{List, [], _++_, append-assoc}
-use Prim.Native.Nat.{ℕ, _+_, _≤_}
-use native.Mathlib.Nat.{add-zero, zero-add, add-assoc}
-use native.Mathlib.Omega.{arith}
-use lib.ListN.{length, take, drop, length-append, length-take, length-drop, take-append-drop}
-use lib.Seq.{sets, sets-eq, length-take-le, take-at, drop-drop}
+use Rattle.records.specs.Prelude.{_≡_, ap, _∙_, List, [], _++_, append-assoc, ℕ, _+_, _≤_, add-zero, zero-add, add-assoc, arith, length, take, drop, length-append, length-take, length-drop, take-append-drop, sets, sets-eq, length-take-le, take-at, drop-drop}
 use Rattle.rules.proofs.Lists.{drop-past}
 use Rattle.records.specs.Bytes.{overwrite}
 

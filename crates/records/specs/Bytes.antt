@@ -1,7 +1,5 @@
 -- Bytes written at a place of the output
-use Prim.Native.Nat.{ℕ, _+_}
-use mathlib.Core.List.{List, [], _∷_, _++_}
-use lib.ListN.{length, take, drop}
+use Rattle.records.specs.Prelude.{ℕ, _+_, List, [], _∷_, _++_, length, take, drop}
 use Rattle.rules.specs.declared.Record.{Record}
 use Rattle.rules.specs.Record.{word}
 use Rattle.records.specs.declared.Head.{Head}

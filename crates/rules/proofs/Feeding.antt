@@ -1,12 +1,5 @@
 -- One feed after others: a reading goes on where a feed ended full, what is left of the budget, and lists with a call more
-use Prim.Native.Nat.{ℕ, suc, _+_, _-_, _≤_, _<_}
-use native.Mathlib.Nat.{add-assoc}
-use native.Mathlib.Omega.{arith}
-use mathlib.Core.Path.{_≡_, refl, sym, ap, ap₂, _∙_, subst}
-use mathlib.Core.List.{List, [], _∷_, _++_, append-assoc, append-nil}
-use lib.ListN.{length, drop}
-use lib.Seq.{drop-append-le, drop-drop}
-use borrow.Author.Tests.{ltb-true}
+use Rattle.rules.specs.Prelude.{ℕ, suc, _+_, _-_, _≤_, _<_, add-assoc, arith, _≡_, refl, sym, ap, ap₂, _∙_, subst, List, [], _∷_, _++_, append-assoc, append-nil, length, drop, drop-append-le, drop-drop, ltb-true}
 use Rattle.rules.specs.Types.{Record, Done, Full, Verdict, Passes, Fails}
 use Rattle.rules.specs.Numbers.{roomForStep}
 use Rattle.rules.specs.Step.{State, removeSpent, Source, NothingLeft, Found, seek, Goes, interpret}

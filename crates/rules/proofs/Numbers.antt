@@ -1,8 +1,5 @@
 -- A number determines its answer: different answers have different numbers
-use Prim.Native.Nat.{ℕ, zero, suc}
-use mathlib.Core.Path.{_≡_, refl, sym, ap, _∙_}
-use mathlib.Core.List.{List, [], _∷_}
-use lib.ListN.{getD}
+use Rattle.rules.specs.Prelude.{ℕ, zero, suc, _≡_, refl, sym, ap, _∙_, List, [], _∷_, getD}
 use Rattle.rules.specs.Types.{BudgetUsed, ByteOver127, NameBelow, Unsupported, DefinitionInBody, StoreFull, TooDeep}
 use Rattle.rules.specs.Types.{TooManyVertices, EndInside, BodyBytesLeft, StoreSize, OutOfRange, AfterEnd, AddressOver15}
 use Rattle.rules.specs.Types.{Answer, Done, Full, Refused, Shade, Of, NoAddress}

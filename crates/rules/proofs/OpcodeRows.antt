@@ -1,12 +1,5 @@
 -- The table of opcodes: its rows say what the bullets of "Operands and opcodes" say, group by group; and a row found by its place
-use Prim.Native.Nat.{ℕ, zero, suc, _-_, _%_}
-use native.Mathlib.Omega.{arith}
-use mathlib.Core.Path.{_≡_, refl, sym, _∙_}
-use mathlib.Core.Bool.{_&&_}
-use mathlib.Core.List.{List, [], _∷_, _++_, map}
-use lib.ListN.{getD, replicate}
-use lib.Dec.{ltb, leb, eqb}
-use borrow.Author.Tests.{ltb-true}
+use Rattle.rules.specs.Prelude.{ℕ, zero, suc, _-_, _%_, arith, _≡_, refl, sym, _∙_, _&&_, List, [], _∷_, _++_, map, getD, replicate, ltb, leb, eqb, ltb-true}
 use Rattle.rules.specs.Types.{Due, First, Second, Third, Role, MoveTo, Start}
 use Rattle.rules.specs.Drawing.{other, rows, rowOf, roleOf}
 use Rattle.rules.proofs.Bools.{by-test, pick-yes, pick-no}

@@ -1,8 +1,6 @@
 -- What each call promises: its number, and all that it hands over, are those of the rules. One name for each call, cited by its
 -- contract and by whoever calls it
-use Prim.Native.Nat.{ℕ}
-use mathlib.Core.Path.{_≡_}
-use mathlib.Core.List.{List}
+use Rattle.rules.specs.Prelude.{ℕ, _≡_, List}
 use Rattle.rules.specs.Types.{Session, Shade, Opened, Fed, Ended·handed}
 use Rattle.rules.specs.Step.{State, stateLent}
 use Rattle.rules.specs.Calls.{numberOf, Terms, Opening, openPage, Handed, feed, end, colour, shadeNumber, shadeValues}

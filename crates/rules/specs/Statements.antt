@@ -1,8 +1,5 @@
 -- What is claimed of every page, cut, buffer and macro; proved in proofs/Cutting, Expanding and Demand3
-use Prim.Native.Nat.{ℕ, _-_}
-use mathlib.Core.Path.{_≡_}
-use mathlib.Core.List.{List, [], _++_}
-use lib.ListN.{take}
+use Rattle.rules.specs.Prelude.{ℕ, _-_, _≡_, List, [], _++_, take}
 use Rattle.rules.specs.Types.{Full}
 use Rattle.rules.specs.Step.{State}
 use Rattle.rules.specs.Reading.{Steps, readTo, undivided, Waits}

@@ -1,7 +1,5 @@
 -- One turn of a reading: spent bodies removed, the tests in their order, and a step. Every reading, and the expansion, repeats it
-use Prim.Native.Nat.{ℕ, zero, suc}
-use mathlib.Core.Bool.{Bool, true, false}
-use mathlib.Core.List.{List}
+use Rattle.rules.specs.Prelude.{ℕ, zero, suc, Bool, true, false, List}
 use Rattle.rules.specs.Types.{Record, Refusal, BudgetUsed, OutOfRange, Stopped, Answer, Done, Full, Refused}
 use Rattle.rules.specs.Step.{State, withStatus, removeSpent, Source, Sought, NothingLeft, Spoilt, Found, seek, Move, Stops, Goes, interpret}
 
@@ -37,7 +35,7 @@ onSought false zero (Found b v s bs) w = stopped BudgetUsed w
 onSought false (suc n) Spoilt w = stopped OutOfRange w
 onSought false (suc n) (Found b v s bs) w = onMove (interpret v s b) b s bs w
 
--- "Removal comes before the checks and stands whatever they answer."
+-- "Removal comes before the checks and stands whatever they answer." `full` tells that the output has no room for a step
 unfoldable pub turn : Bool → (n : ℕ) → State → List ℕ → Turn n
 turn full n w bs = onSought full n (seek (removeSpent w) bs) (removeSpent w)
 
@@ -45,6 +43,7 @@ turn full n w bs = onSought full n (seek (removeSpent w) bs) (removeSpent w)
 unfoldable pub atEnd : {A : Type 0} → Turn zero → (Answer → State → A) → A
 atEnd (Ends a w) ends = ends a w
 
+-- and of one that may take a step
 unfoldable pub onTurn : {A : Type 0} {n : ℕ} → Turn (suc n) → (Answer → State → A) → (Taken → A) → A
 onTurn (Ends a w) ends takes = ends a w
 onTurn (Takes t) ends takes = takes t

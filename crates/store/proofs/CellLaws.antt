@@ -1,11 +1,5 @@
 -- Laws of cells. No other file knows where the parts of a cell lie.
-use mathlib.Core.Path.{_≡_, sym, ap, _∙_}
-use mathlib.Core.Bool.{true}
-use mathlib.Core.List.{List, _∷_, _++_, append-nil, append-assoc}
-use Prim.Native.Nat.{ℕ, zero, suc, _+_, _*_, _-_, _<_, _≤_}
-use native.Mathlib.Omega.{arith}
-use lib.ListN.{length, set, replicate, length-set, replicate-append-replicate}
-use lib.Seq.{getD-set-same, getD-set-other}
+use Rattle.store.specs.Prelude.{_≡_, sym, ap, _∙_, true, List, _∷_, _++_, append-nil, append-assoc, ℕ, zero, suc, _+_, _*_, _-_, _<_, _≤_, arith, length, set, replicate, length-set, replicate-append-replicate, getD-set-same, getD-set-other}
 use Rattle.rules.specs.Store.{nextOf, setNext, countOf, setCount, goodCount, setBodyByte, linked, freshStore}
 use Rattle.rules.proofs.Lists.{set-past}
 use Rattle.rules.proofs.Spans.{inside, least, most}

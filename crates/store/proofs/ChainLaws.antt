@@ -1,10 +1,5 @@
 -- Laws of chains: the walk to the last cell, and freeing from what the calls hand back.
-use mathlib.Core.Path.{_≡_, refl}
-use mathlib.Core.List.{List}
-use Prim.Native.Nat.{ℕ, zero, suc, _-_, _<_, _≤_}
-use native.Mathlib.Nat.{not-suc-le-zero}
-use native.Mathlib.Numerals.{sub-one}
-use borrow.Author.Tests.{eq-eqb, ne-eqb}
+use Rattle.store.specs.Prelude.{_≡_, refl, List, ℕ, zero, suc, _-_, _<_, _≤_, not-suc-le-zero, sub-one, eq-eqb, ne-eqb}
 use Rattle.rules.specs.declared.Chain.the-variants.{Ends, TooLong}
 use Rattle.rules.specs.declared.Refusal.the-variants.{OutOfRange}
 use Rattle.rules.specs.Store.{nextOf, setNext, lastCell, NotFreed, Freed, freeTo, freeBody}

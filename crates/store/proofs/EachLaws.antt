@@ -1,10 +1,5 @@
 -- Laws of consecutive bytes: a run goes on by a byte and by a run, and may be seen as a run of other steps.
-use mathlib.Core.Path.{_≡_}
-use mathlib.Core.List.{List}
-use Prim.Native.Nat.{ℕ, zero, suc, _+_}
-use native.Mathlib.Numerals.{add-one}
-use native.Mathlib.Omega.{arith}
-use lib.ListN.{getD}
+use Rattle.store.specs.Prelude.{_≡_, List, ℕ, zero, suc, _+_, add-one, arith, getD}
 use Rattle.store.specs.Each.{Each, none, more}
 
 module _ {X : Type 0} {Step : ℕ → X → X → Type 0} (bytes : List ℕ) (from : ℕ) {x : X} (n : ℕ) where

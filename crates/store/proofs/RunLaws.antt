@@ -1,10 +1,5 @@
 -- Laws of runs: bytes laid into a cell.
-use mathlib.Core.Path.{_≡_}
-use mathlib.Core.List.{List}
-use Prim.Native.Nat.{ℕ, _+_, _*_}
-use native.Mathlib.Numerals.{add-one}
-use native.Mathlib.Omega.{arith}
-use lib.ListN.{getD, set}
+use Rattle.store.specs.Prelude.{_≡_, List, ℕ, _+_, _*_, add-one, arith, getD, set}
 use Rattle.rules.specs.Store.{setBodyByte}
 use Rattle.store.specs.Runs.{Plain, Laid, more}
 

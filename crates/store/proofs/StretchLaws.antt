@@ -1,12 +1,5 @@
 -- A stretch of the store: none, or what is left of a cell that can be read
-use Prim.Native.Nat.{ℕ, _+_, _*_, _<_, _≤_}
-use native.Mathlib.Nat.{add-suc, add-assoc}
-use native.Mathlib.Omega.{arith}
-use mathlib.Core.Path.{_≡_}
-use mathlib.Core.Bool.{true}
-use mathlib.Core.List.{List}
-use lib.ListN.{length}
-use borrow.Author.Tests.{ne-eqb, lt-ltb, le-leb}
+use Rattle.store.specs.Prelude.{ℕ, _+_, _*_, _<_, _≤_, add-suc, add-assoc, arith, _≡_, true, List, length, ne-eqb, lt-ltb, le-leb}
 use Rattle.rules.specs.declared.Cursor.{Cursor}
 use Rattle.rules.specs.Numbers.{storeSize, mostBytes}
 use Rattle.rules.specs.Store.{countOf, bodyByte, goodCount}

@@ -1,7 +1,5 @@
 -- Consecutive bytes, each a step of its own
-use Prim.Native.Nat.{ℕ, zero, suc, _+_}
-use mathlib.Core.List.{List}
-use lib.ListN.{getD}
+use Rattle.store.specs.Prelude.{ℕ, zero, suc, _+_, List, getD}
 
 -- So many bytes from a place on lead from x to another state
 pub data Each {X : Type 0} (Step : ℕ → X → X → Type 0) (bytes : List ℕ) (from : ℕ) (x : X) : ℕ → X → Type 0 where

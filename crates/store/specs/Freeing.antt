@@ -1,7 +1,5 @@
 -- An answer to freeing a body, with the store left, as the rule has it
-use Prim.Native.Nat.{ℕ}
-use mathlib.Core.List.{List}
-use mathlib.Core.Path.{_≡_}
+use Rattle.store.specs.Prelude.{ℕ, List, _≡_}
 use Rattle.rules.specs.Store.{Freeing, NotFreed, Freed}
 use Rattle.store.specs.declared.chains.FreeAnswer.{FreeAnswer}
 use Rattle.store.specs.declared.chains.FreeAnswer.the-variants.{Done, Refused}

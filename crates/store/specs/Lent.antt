@@ -1,8 +1,5 @@
 -- What the functions ask of what they are lent
-use Prim.Native.Nat.{ℕ, _≤_}
-use mathlib.Core.List.{List}
-use mathlib.Core.Path.{_≡_}
-use lib.ListN.{length}
+use Rattle.store.specs.Prelude.{ℕ, _≤_, List, _≡_, length}
 use Rattle.rules.specs.Numbers.{storeSize}
 
 -- "a store of exactly 8,192 bytes"

@@ -1,3 +1,4 @@
+pub mod Prelude
 pub mod Lent
 pub mod Freeing
 pub mod Each

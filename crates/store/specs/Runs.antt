@@ -1,8 +1,5 @@
 -- Runs: consecutive bytes of a definition
-use Prim.Native.Nat.{ℕ, zero, suc, _+_, _≤_}
-use mathlib.Core.List.{List}
-use mathlib.Core.Path.{_≡_}
-use lib.ListN.{getD}
+use Rattle.store.specs.Prelude.{ℕ, zero, suc, _+_, _≤_, List, _≡_, getD}
 use Rattle.rules.specs.Numbers.{esc}
 use Rattle.rules.specs.Store.{Filling, Stored, setBodyByte, storeByte}
 use Rattle.store.specs.Each.{Each}

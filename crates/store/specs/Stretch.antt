@@ -1,9 +1,5 @@
 -- A stretch of the store: the next bytes of a body, as far as they lie in one cell
-use Prim.Native.Nat.{ℕ, suc, _+_}
-use mathlib.Core.Bool.{true}
-use mathlib.Core.List.{List}
-use mathlib.Core.Path.{_≡_}
-use lib.ListN.{getD}
+use Rattle.store.specs.Prelude.{ℕ, suc, _+_, true, List, _≡_, getD}
 use Rattle.rules.specs.declared.Cursor.{Cursor}
 use Rattle.rules.specs.declared.Read.the-variants.{Byte}
 use Rattle.rules.specs.Bodies.{hasLeft, readBody}

@@ -1,14 +1,5 @@
 -- The classes of bytes, by stretches of the controls that do the same.
-use Prim.Native.Nat.{ℕ, zero, suc, _+_, _-_, _<_, _≤_}
-use native.Mathlib.Nat.{zero-add, suc-add}
-use native.Mathlib.Omega.{arith}
-use mathlib.Core.Path.{_≡_, refl, sym, ap, _∙_}
-use mathlib.Core.Bool.{Bool, true, false}
-use mathlib.Core.List.{List, [], _∷_}
-use lib.ListN.{getD, take, drop, replicate, getD-replicate}
-use lib.Seq.{getD-take}
-use lib.Dec.{ltb}
-use borrow.Author.Tests.{lt-ltb, le-ltb, ltb-true}
+use Rattle.tables.proofs.Prelude.{ℕ, zero, suc, _+_, _-_, _<_, _≤_, zero-add, suc-add, arith, _≡_, refl, sym, ap, _∙_, Bool, true, false, List, [], _∷_, getD, take, drop, replicate, getD-replicate, getD-take, ltb, lt-ltb, le-ltb, ltb-true}
 use Rattle.rules.specs.declared.Class.{Class}
 use Rattle.rules.specs.declared.Class.the-variants.{Below, Column2, Above}
 use Rattle.rules.specs.declared.Control.{Control}

@@ -1,8 +1,5 @@
 -- The `_` arm of a match on an enum: at each variant that it stands for, by its number, the rule is what the arm answers.
-use mathlib.Core.Path.{_≡_, refl}
-use mathlib.Core.Bool.{true, false}
-use mathlib.Core.List.{List, [], _∷_}
-use Prim.Native.Nat.{ℕ}
+use Rattle.tables.proofs.Prelude.{_≡_, refl, true, false, List, [], _∷_, ℕ}
 use types.Run.{OneOf, miss}
 use denote.Enum.Declared.{tagOf}
 use Rattle.rules.proofs.Pattern.{the-type as the-pattern}

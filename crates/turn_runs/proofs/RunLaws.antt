@@ -1,14 +1,5 @@
 -- Runs of bytes as walks
-use Prim.Native.Nat.{ℕ, zero, suc, _+_, _-_, _≤_, _<_}
-use native.Mathlib.Nat.{add-zero, add-suc}
-use native.Mathlib.Omega.{arith}
-use mathlib.Core.Path.{_≡_, refl, sym, ap, _∙_, subst}
-use mathlib.Core.Bool.{Bool, true, false}
-use mathlib.Core.List.{List, [], _∷_}
-use lib.ListN.{length, drop, getD, set}
-use lib.Seq.{drop-cons, getD-set-same, set-getD}
-use lib.Dec.{ltb}
-use borrow.Author.Tests.{le-ltb}
+use Rattle.turn_runs.specs.Prelude.{ℕ, zero, suc, _+_, _-_, _≤_, _<_, add-zero, add-suc, arith, _≡_, refl, sym, ap, _∙_, subst, Bool, true, false, List, [], _∷_, length, drop, getD, set, drop-cons, getD-set-same, set-getD, ltb, le-ltb}
 use Rattle.rules.specs.declared.Action.{Action}
 use Rattle.rules.specs.declared.Action.the-variants.{Idle as Idle·action}
 use Rattle.rules.specs.declared.Bodies.{Bodies}

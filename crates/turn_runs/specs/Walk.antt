@@ -1,9 +1,5 @@
 -- A walk: turns of a reading that are taken one after the other, each an accepted step
-use Prim.Native.Nat.{ℕ, zero, suc, _+_, _-_, _<_, _≤_}
-use mathlib.Core.List.{List}
-use mathlib.Core.Path.{_≡_}
-use lib.ListN.{length, drop, getD, set}
-use lib.Dec.{ltb}
+use Rattle.turn_runs.specs.Prelude.{ℕ, zero, suc, _+_, _-_, _<_, _≤_, List, _≡_, length, drop, getD, set, ltb}
 use Rattle.rules.specs.declared.Drawing.{Drawing}
 use Rattle.rules.specs.Numbers.{roomForStep}
 use Rattle.rules.specs.Bodies.{bodyAt}

@@ -1,6 +1,5 @@
 -- The place of the piece after a run
-use Prim.Native.Nat.{ℕ, zero, suc, _+_}
-use mathlib.Core.Path.{_≡_, refl}
+use Rattle.turns.specs.Prelude.{ℕ, zero, suc, _+_, _≡_, refl}
 use Rattle.turns.specs.Progress.{placeAfter}
 
 pub placed-piece : (d n at : ℕ) → d ≡ 0 → at + n ≡ placeAfter d n at

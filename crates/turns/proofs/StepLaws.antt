@@ -1,14 +1,5 @@
 -- A step by its parts: the body read on, a call, an action, and the reaction that leads to them
-use Prim.Native.Nat.{ℕ, zero, suc, _+_, _-_, _≤_, _<_}
-use native.Mathlib.Nat.{add-zero}
-use native.Mathlib.Numerals.{add-one, sub-one}
-use mathlib.Core.Path.{_≡_, refl, sym, ap, _∙_}
-use mathlib.Core.Bool.{Bool, true, false, _&&_}
-use mathlib.Core.List.{List, []}
-use mathlib.Core.Logic.{_⊎_, inl, inr}
-use lib.ListN.{set}
-use lib.Dec.{eqb}
-use borrow.Author.Tests.{lt-ltb, le-ltb}
+use Rattle.turns.specs.Prelude.{ℕ, zero, suc, _+_, _-_, _≤_, _<_, add-zero, add-one, sub-one, _≡_, refl, sym, ap, _∙_, Bool, true, false, _&&_, List, [], _⊎_, inl, inr, set, eqb, lt-ltb, le-ltb}
 use Rattle.rules.specs.declared.Action.{Action}
 use Rattle.rules.specs.declared.Action.the-variants.{Idle}
 use Rattle.rules.specs.declared.Bodies.{Bodies}

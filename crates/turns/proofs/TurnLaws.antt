@@ -1,15 +1,5 @@
 -- A turn by its parts: whether something is left, the byte that is next, and each way in which the turn comes out
-use Prim.Native.Nat.{ℕ, zero, suc, _+_, _-_, _≤_, _<_}
-use native.Mathlib.Nat.{add-zero}
-use native.Mathlib.Numerals.{add-one, sub-one}
-use native.Mathlib.Omega.{arith}
-use mathlib.Core.Path.{_≡_, refl, sym, ap, _∙_}
-use mathlib.Core.Bool.{Bool, true, false}
-use mathlib.Core.List.{List, [], _∷_}
-use lib.ListN.{length, drop, getD, drop-of-length-le}
-use lib.Seq.{drop-cons, getD-drop}
-use lib.Dec.{ltb, leb}
-use borrow.Author.Tests.{lt-ltb, le-ltb, leb-true, leb-false}
+use Rattle.turns.specs.Prelude.{ℕ, zero, suc, _+_, _-_, _≤_, _<_, add-zero, add-one, sub-one, arith, _≡_, refl, sym, ap, _∙_, Bool, true, false, List, [], _∷_, length, drop, getD, drop-of-length-le, drop-cons, getD-drop, ltb, leb, lt-ltb, le-ltb, leb-true, leb-false}
 use Rattle.rules.specs.declared.Answer.the-variants.{Done, Full, Refused}
 use Rattle.rules.specs.declared.Bodies.{Bodies}
 use Rattle.rules.specs.declared.Cursor.{Cursor}

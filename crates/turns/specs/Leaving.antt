@@ -1,8 +1,5 @@
 -- The turn of the rules by its parts, and what it leaves
-use Prim.Native.Nat.{ℕ, zero, suc, _+_}
-use mathlib.Core.Bool.{Bool, true, false}
-use mathlib.Core.List.{List, [], _∷_}
-use lib.ListN.{length, getD}
+use Rattle.turns.specs.Prelude.{ℕ, zero, suc, _+_, Bool, true, false, List, [], _∷_, length, getD}
 use Rattle.rules.specs.declared.Bodies.{Bodies}
 use Rattle.rules.specs.declared.Cursor.{Cursor}
 use Rattle.rules.specs.declared.Read.{Read}

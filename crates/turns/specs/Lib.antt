@@ -1,3 +1,4 @@
+pub mod Prelude
 pub mod Leaving
 pub mod Progress
 pub mod View

@@ -1,8 +1,5 @@
 -- The state of a reading as the code holds it: in parts, with the drawing state and the arrays beside them
-use Prim.Native.Nat.{ℕ, _≤_, _<_}
-use mathlib.Core.Bool.{Bool, true, false}
-use mathlib.Core.Path.{_≡_}
-use mathlib.Core.List.{List}
+use Rattle.turns.specs.Prelude.{ℕ, _≤_, _<_, Bool, true, false, _≡_, List}
 use Rattle.rules.specs.declared.Bodies.{Bodies}
 use Rattle.rules.specs.declared.Coding.{Coding}
 use Rattle.rules.specs.declared.Cursor.{Cursor}

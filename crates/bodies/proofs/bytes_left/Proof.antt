@@ -1,8 +1,4 @@
-use mathlib.Core.Path.{ap}
-use mathlib.Core.Bool.{not}
-use Prim.Native.Nat.{ℕ}
-use borrow.Author.Needs.{needs}
-use lib.Dec.{eqb}
+use Rattle.bodies.specs.Prelude.{ap, not, ℕ, needs, eqb}
 use Rattle.rules.specs.Bodies.{bytesLeft}
 use Rattle.bodies.proofs.bytes_left.Statement.{statement}
 use Rattle.bodies.proofs.bytes_left.Tie as tie

@@ -1,6 +1,4 @@
-use mathlib.Core.Path.{_≡_, refl, _∙_, sym}
-use Prim.Native.Nat.{_≤_}
-use native.Mathlib.Omega.{arith}
+use Rattle.bodies.specs.Prelude.{_≡_, refl, _∙_, sym, _≤_, arith}
 use Rattle.rules.specs.Bodies.{depthLeft}
 use Rattle.bodies.specs.Stack.{bodiesOf}
 use Rattle.bodies.proofs.StackLaws.{left-none, left-here, left-below}

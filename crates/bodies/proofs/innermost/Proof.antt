@@ -1,5 +1,4 @@
-use mathlib.Core.Path.{_∙_, ap}
-use borrow.Author.Needs.{needs}
+use Rattle.bodies.specs.Prelude.{_∙_, ap, needs}
 use Rattle.rules.specs.Bodies.{readBody}
 use Rattle.bodies.proofs.innermost.Statement.{statement}
 use Rattle.bodies.proofs.innermost.Tie as tie

@@ -1,10 +1,9 @@
-use mathlib.Core.Path.{refl, _∙_}
+use Rattle.coding.specs.Prelude.{refl, _∙_, needs}
 use Rattle.rules.specs.declared.Waiting.the-variants.{Escape, Designator, Longer, Name, Body, BodyEscape}
 use Rattle.rules.specs.Coding.{reactTo}
 use Rattle.rules.specs.Ranges.{waitingFits}
 use Rattle.coding.proofs.Answers.{unchanged}
 use Rattle.coding.proofs.ReactLaws.{is-name, others-read, over, inside}
-use borrow.Author.Needs.{needs}
 use Rattle.coding.proofs.react.Statement.{statement}
 use Rattle.coding.proofs.react.Tie as tie
 

@@ -1,7 +1,6 @@
-use mathlib.Core.Path.{refl}
+use Rattle.coding_runs.specs.Prelude.{refl, needs}
 use Rattle.coding_runs.specs.Idle.{idleAction, idleEffect}
 use Rattle.coding_runs.proofs.IdleLaws.{others-act}
-use borrow.Author.Needs.{needs}
 use Rattle.coding_runs.proofs.is_idle.Statement.{statement}
 use Rattle.coding_runs.proofs.is_idle.Tie as tie
 

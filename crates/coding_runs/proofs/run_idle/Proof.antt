@@ -1,9 +1,4 @@
-use mathlib.Core.Path.{_≡_, sym, _∙_}
-use Prim.Native.Nat.{_+_, _-_, _≤_}
-use native.Mathlib.Omega.{arith}
-use lib.ListN.{length}
-use borrow.Author.Needs.{needs}
-use borrow.Author.Tests.{not-true, not-false}
+use Rattle.coding_runs.specs.Prelude.{_≡_, sym, _∙_, _+_, _-_, _≤_, arith, length, needs, not-true, not-false}
 use Rattle.store.specs.Each.{none}
 use Rattle.store.proofs.EachLaws.{each-on, each-join}
 use Rattle.coding_runs.specs.Idle.{Idle, coded}

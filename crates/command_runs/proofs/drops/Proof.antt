@@ -1,6 +1,5 @@
-use native.Mathlib.Omega.{arith}
+use Rattle.command_runs.specs.Prelude.{arith, needs}
 use Rattle.rules.proofs.Bools.{false-true}
-use borrow.Author.Needs.{needs}
 use Rattle.command_runs.proofs.drops.Statement.{statement}
 use Rattle.command_runs.proofs.drops.Tie as tie
 

@@ -1,8 +1,6 @@
-use mathlib.Core.Path.{sym, _∙_}
-use borrow.Author.Tests.{ltb-true}
+use Rattle.command_runs.specs.Prelude.{sym, _∙_, ltb-true, needs}
 use Rattle.rules.proofs.Bools.{false-true}
 use Rattle.command_runs.proofs.CommandLaws.{control-asked, opcode-asked}
-use borrow.Author.Needs.{needs}
 use Rattle.command_runs.proofs.opens.Statement.{statement}
 use Rattle.command_runs.proofs.opens.Tie as tie
 

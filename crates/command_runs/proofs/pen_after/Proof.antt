@@ -1,6 +1,4 @@
-use native.Mathlib.Omega.{arith}
-use mathlib.Core.Path.{_∙_}
-use borrow.Author.Needs.{needs}
+use Rattle.command_runs.specs.Prelude.{arith, _∙_, needs}
 use Rattle.command_runs.proofs.CommandLaws.{after-some}
 use Rattle.command_runs.proofs.pen_after.Statement.{statement}
 use Rattle.command_runs.proofs.pen_after.Tie as tie

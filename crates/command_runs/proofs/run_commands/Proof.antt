@@ -1,10 +1,4 @@
-use borrow.Author.Needs.{needs, length-unmapped}
-use native.Mathlib.Omega.{arith}
-use mathlib.Core.Path.{_≡_, refl, sym, ap, _∙_}
-use mathlib.Core.List.{List}
-use Prim.Native.Nat.{ℕ, _+_, _-_, _≤_}
-use lib.ListN.{length}
-use borrow.Author.Tests.{not-false}
+use Rattle.command_runs.specs.Prelude.{needs, length-unmapped, arith, _≡_, refl, sym, ap, _∙_, List, ℕ, _+_, _-_, _≤_, length, not-false}
 use Rattle.rules.specs.declared.Command.{Command}
 use Rattle.rules.specs.declared.Domain.{Domain}
 use Rattle.rules.specs.declared.Look.{Look}

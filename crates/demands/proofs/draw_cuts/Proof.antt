@@ -1,7 +1,6 @@
-use denote.Ref.{now}
+use Rattle.demands.specs.Prelude.{now, needs}
 use Rattle.rules.specs.Calls.{withBudget}
 use Rattle.demands.proofs.DrawLaws.{drawn}
-use borrow.Author.Needs.{needs}
 use Rattle.demands.proofs.draw_cuts.Statement.{statement}
 use Rattle.demands.proofs.draw_cuts.Tie as tie
 

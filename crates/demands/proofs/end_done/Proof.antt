@@ -1,9 +1,7 @@
-use denote.Ref.{now}
-use mathlib.Core.Path.{_∙_}
+use Rattle.demands.specs.Prelude.{now, _∙_, needs}
 use Rattle.rules.specs.Promises.{handedOf}
 use Rattle.demands.specs.Pictures.{endAfter}
 use Rattle.demands.proofs.DrawLaws.{end-told}
-use borrow.Author.Needs.{needs}
 use Rattle.demands.proofs.end_done.Statement.{statement}
 use Rattle.demands.proofs.end_done.Tie as tie
 

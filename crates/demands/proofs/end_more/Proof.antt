@@ -1,7 +1,5 @@
-use denote.Ref.{now}
-use native.Mathlib.Omega.{arith}
+use Rattle.demands.specs.Prelude.{now, arith, needs}
 use Rattle.demands.proofs.DrawLaws.{end-counts, end-more}
-use borrow.Author.Needs.{needs}
 use Rattle.demands.proofs.end_more.Statement.{statement}
 use Rattle.demands.proofs.end_more.Tie as tie
 

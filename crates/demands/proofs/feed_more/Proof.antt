@@ -1,9 +1,5 @@
-use denote.Ref.{now}
-use mathlib.Core.Path.{sym}
-use native.Mathlib.Omega.{arith}
-use lib.Seq.{length-take-le}
+use Rattle.demands.specs.Prelude.{now, sym, arith, length-take-le, needs}
 use Rattle.demands.proofs.CutLaws.{fed-counts, fed-more}
-use borrow.Author.Needs.{needs}
 use Rattle.demands.proofs.feed_more.Statement.{statement}
 use Rattle.demands.proofs.feed_more.Tie as tie
 

@@ -1,8 +1,6 @@
-use native.Mathlib.Nat.{le-of-lt}
-use native.Mathlib.Omega.{arith}
+use Rattle.drawing.proofs.Prelude.{le-of-lt, arith, needs}
 use Rattle.rules.specs.Drawing.{act}
 use Rattle.drawing.proofs.RangeLaws.{count-most, foreground-most}
-use borrow.Author.Needs.{needs}
 use Rattle.drawing.proofs.act.Statement.{statement}
 use Rattle.drawing.proofs.act.Tie as tie
 

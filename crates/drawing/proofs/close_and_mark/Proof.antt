@@ -1,9 +1,7 @@
-use native.Mathlib.Omega.{arith}
-use mathlib.Core.Path.{_∙_}
+use Rattle.drawing.proofs.Prelude.{arith, _∙_, needs}
 use Rattle.figures.proofs.Carrying.{then-refused, then-drawn}
 use Rattle.drawing.proofs.ActionLaws.{record-so}
 use Rattle.drawing.proofs.ClosingLaws.{close-place}
-use borrow.Author.Needs.{needs}
 use Rattle.drawing.proofs.close_and_mark.Statement.{statement}
 use Rattle.drawing.proofs.close_and_mark.Tie as tie
 

@@ -1,10 +1,8 @@
-use native.Mathlib.Omega.{arith}
-use mathlib.Core.Path.{refl, _∙_}
+use Rattle.drawing.proofs.Prelude.{arith, refl, _∙_, needs}
 use Rattle.rules.specs.Drawing.{openCommand}
 use Rattle.figures.specs.Tracing.{Inks}
 use Rattle.figures.proofs.Carrying.{carry-none, then-refused, then-drawn}
 use Rattle.drawing.proofs.ClosingLaws.{close-place}
-use borrow.Author.Needs.{needs}
 use Rattle.drawing.proofs.close_and_open.Statement.{statement}
 use Rattle.drawing.proofs.close_and_open.Tie as tie
 

@@ -1,9 +1,7 @@
-use mathlib.Core.Path.{refl, sym, _∙_}
-use borrow.Author.Tests.{not-true, not-false}
+use Rattle.figures.specs.Prelude.{refl, sym, _∙_, not-true, not-false, needs}
 use Rattle.figures.specs.Tracing.{Inks}
 use Rattle.figures.proofs.Carrying.{puts-carried}
 use Rattle.figures.proofs.TraceLaws.{point-refused}
-use borrow.Author.Needs.{needs}
 use Rattle.figures.proofs.draw_point.Statement.{statement}
 use Rattle.figures.proofs.draw_point.Tie as tie
 

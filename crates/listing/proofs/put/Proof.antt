@@ -1,8 +1,5 @@
 use Rattle.listing.proofs.Places.{copied}
-use native.Mathlib.Omega.{arith}
-use mathlib.Core.Path.{ap}
-use Prim.Native.Nat.{ℕ, _+_}
-use borrow.Author.Needs.{needs}
+use Rattle.listing.specs.Prelude.{arith, ap, ℕ, _+_, needs}
 use Rattle.listing.proofs.put.Statement.{statement}
 use Rattle.listing.proofs.put.Tie as tie
 

@@ -1,7 +1,6 @@
 use Rattle.listing.proofs.Places.{joined, counts}
 use Rattle.listing.specs.Text.{closing}
-use native.Mathlib.Omega.{arith}
-use borrow.Author.Needs.{needs}
+use Rattle.listing.specs.Prelude.{arith, needs}
 use Rattle.listing.proofs.put_closing.Statement.{statement}
 use Rattle.listing.proofs.put_closing.Tie as tie
 

@@ -1,14 +1,7 @@
-use mathlib.Core.List.{List}
+use Rattle.listing.specs.Prelude.{List, arith, add-one, _≡_, refl, ℕ, _+_, _*_, _-_, _≤_, length, lt-ltb, needs}
 use Rattle.listing.proofs.Decimals.{decimal-length}
 use Rattle.listing.proofs.Places.{nothing, joined}
 use Rattle.listing.specs.Text.{fieldOf, separator, fieldsTo, Put}
-use native.Mathlib.Omega.{arith}
-use native.Mathlib.Numerals.{add-one}
-use mathlib.Core.Path.{_≡_, refl}
-use Prim.Native.Nat.{ℕ, _+_, _*_, _-_, _≤_}
-use lib.ListN.{length}
-use borrow.Author.Tests.{lt-ltb}
-use borrow.Author.Needs.{needs}
 use Rattle.listing.proofs.put_head.Statement.{statement}
 use Rattle.listing.proofs.put_head.Tie as tie
 

@@ -1,13 +1,6 @@
 use Rattle.listing.proofs.Places.{joined}
 use Rattle.listing.specs.Text.{fieldOf, fieldsTo, Put}
-use native.Mathlib.Omega.{arith}
-use native.Mathlib.Numerals.{add-one}
-use mathlib.Core.Path.{_≡_, refl}
-use mathlib.Core.List.{List}
-use Prim.Native.Nat.{ℕ, _+_, _*_, _-_, _≤_}
-use lib.ListN.{length}
-use borrow.Author.Tests.{le-ltb}
-use borrow.Author.Needs.{needs}
+use Rattle.listing.specs.Prelude.{arith, add-one, _≡_, refl, List, ℕ, _+_, _*_, _-_, _≤_, length, le-ltb, needs}
 use Rattle.listing.proofs.put_line.Statement.{statement}
 use Rattle.listing.proofs.put_line.Tie as tie
 

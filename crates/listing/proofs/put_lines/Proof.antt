@@ -1,14 +1,6 @@
-use mathlib.Core.List.{List}
+use Rattle.listing.specs.Prelude.{List, arith, add-one, _≡_, refl, ap, ℕ, _+_, _*_, _-_, _/_, _≤_, length, now, min-le-right, needs}
 use Rattle.listing.proofs.Places.{nothing, joined, counts, record-fits}
 use Rattle.listing.specs.Text.{linesTo, Put}
-use native.Mathlib.Omega.{arith}
-use native.Mathlib.Numerals.{add-one}
-use mathlib.Core.Path.{_≡_, refl, ap}
-use Prim.Native.Nat.{ℕ, _+_, _*_, _-_, _/_, _≤_}
-use lib.ListN.{length}
-use denote.Ref.{now}
-use native.Mathlib.Nat.{min-le-right}
-use borrow.Author.Needs.{needs}
 use Rattle.listing.proofs.put_lines.Statement.{statement}
 use Rattle.listing.proofs.put_lines.Tie as tie
 

@@ -1,8 +1,6 @@
-use Prim.Native.Nat.{_/_}
-use native.Mathlib.Omega.{arith}
+use Rattle.listing.specs.Prelude.{_/_, arith, needs}
 use Rattle.listing.proofs.Places.{joined}
 use Rattle.listing.proofs.Decimals.{decimal-length, last-four}
-use borrow.Author.Needs.{needs}
 use Rattle.listing.proofs.put_number.Statement.{statement}
 use Rattle.listing.proofs.put_number.Tie as tie
 

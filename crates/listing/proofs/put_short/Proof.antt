@@ -1,7 +1,6 @@
-use native.Mathlib.Omega.{arith}
+use Rattle.listing.specs.Prelude.{arith, needs}
 use Rattle.listing.proofs.Places.{joined}
 use Rattle.listing.proofs.Decimals.{one-digit, two-digits, three-digits, four-digits}
-use borrow.Author.Needs.{needs}
 use Rattle.listing.proofs.put_short.Statement.{statement}
 use Rattle.listing.proofs.put_short.Tie as tie
 

@@ -1,11 +1,7 @@
-use native.Mathlib.Omega.{arith}
-use borrow.Author.Tests.{lt-ltb, le-ltb}
-use mathlib.Core.Path.{_≡_}
-use Prim.Native.Nat.{_+_, _-_}
+use Rattle.listing.specs.Prelude.{arith, lt-ltb, le-ltb, _≡_, _+_, _-_, needs}
 use Rattle.listing.proofs.Places.{joined}
 use Rattle.listing.proofs.Decimals.{one-digit}
 use Rattle.listing.specs.Text.{signedDecimal}
-use borrow.Author.Needs.{needs}
 use Rattle.listing.proofs.put_signed.Statement.{statement}
 use Rattle.listing.proofs.put_signed.Tie as tie
 

@@ -1,6 +1,5 @@
 use Rattle.listing.specs.Text.{separator}
-use borrow.Author.Tests.{lt-ltb, le-ltb}
-use borrow.Author.Needs.{needs}
+use Rattle.listing.specs.Prelude.{lt-ltb, le-ltb, needs}
 use Rattle.listing.proofs.separator.Statement.{statement}
 use Rattle.listing.proofs.separator.Tie as tie
 

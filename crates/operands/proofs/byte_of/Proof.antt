@@ -1,8 +1,6 @@
-use mathlib.Core.Path.{sym}
-use lib.Seq.{getD-take}
+use Rattle.operands.specs.Prelude.{sym, getD-take, needs}
 use Rattle.rules.specs.Operands.{begun}
 use Rattle.rules.proofs.Lists.{take-past}
-use borrow.Author.Needs.{needs}
 use Rattle.operands.proofs.byte_of.Statement.{statement}
 use Rattle.operands.proofs.byte_of.Tie as tie
 

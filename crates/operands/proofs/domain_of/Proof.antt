@@ -1,6 +1,5 @@
-use mathlib.Core.Path.{sym}
+use Rattle.operands.specs.Prelude.{sym, needs}
 use Rattle.operands.proofs.Operands.{domain-is}
-use borrow.Author.Needs.{needs}
 use Rattle.operands.proofs.domain_of.Statement.{statement}
 use Rattle.operands.proofs.domain_of.Tie as tie
 

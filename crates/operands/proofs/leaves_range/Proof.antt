@@ -1,5 +1,4 @@
-use mathlib.Core.Path.{_∙_}
-use borrow.Author.Tests.{ne-eqb}
+use Rattle.operands.specs.Prelude.{_∙_, ne-eqb}
 use Rattle.operands.proofs.Sums.{like, unlike}
 use Rattle.operands.proofs.leaves_range.Statement.{statement}
 use Rattle.operands.proofs.leaves_range.Tie as tie

@@ -1,8 +1,5 @@
-use mathlib.Core.Path.{_≡_}
-use native.Mathlib.Omega.{arith}
-use lib.ListN.{length, length-take}
+use Rattle.operands.specs.Prelude.{_≡_, arith, length, length-take, needs}
 use Rattle.rules.specs.Operands.{begun}
-use borrow.Author.Needs.{needs}
 use Rattle.operands.proofs.point_of.Statement.{statement}
 use Rattle.operands.proofs.point_of.Tie as tie
 

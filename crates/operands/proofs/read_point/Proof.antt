@@ -1,9 +1,4 @@
-use mathlib.Core.Path.{_≡_, refl, sym, ap, _∙_}
-use Prim.Native.Nat.{_≤_, _-_}
-use lib.ListN.{length, getD, take}
-use lib.Seq.{take-all}
-use denote.Ref.{now}
-use borrow.Author.Needs.{needs}
+use Rattle.operands.specs.Prelude.{_≡_, refl, sym, ap, _∙_, _≤_, _-_, length, getD, take, take-all, now, needs}
 use Rattle.rules.specs.Operands.{bitsOf, fromTop, point}
 use Rattle.operands.specs.Steps.{joined}
 use Rattle.operands.proofs.Operands.{point-next}

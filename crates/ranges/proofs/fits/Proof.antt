@@ -1,7 +1,5 @@
 use Rattle.ranges.proofs.VerdictLaws.{fits-not, fits-by}
-use borrow.Author.Tests.{not-true, not-false}
-use mathlib.Core.Path.{refl, sym, _∙_}
-use borrow.Author.Needs.{needs}
+use Rattle.ranges.specs.Prelude.{not-true, not-false, refl, sym, _∙_, needs}
 use Rattle.ranges.proofs.fits.Statement.{statement}
 use Rattle.ranges.proofs.fits.Tie as tie
 

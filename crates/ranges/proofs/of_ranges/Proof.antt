@@ -1,5 +1,4 @@
-use mathlib.Core.Path.{sym, _∙_}
-use borrow.Author.Needs.{needs}
+use Rattle.ranges.specs.Prelude.{sym, _∙_, needs}
 use Rattle.ranges.proofs.of_ranges.Statement.{statement}
 use Rattle.ranges.proofs.of_ranges.Tie as tie
 

@@ -1,8 +1,7 @@
 use Rattle.ranges.proofs.VerdictLaws.{in-order}
-use lib.Dec.{eqb}
+use Rattle.ranges.specs.Prelude.{eqb, needs}
 use Rattle.rules.specs.Numbers.{storeSize}
 use Rattle.rules.specs.Ranges.{fits}
-use borrow.Author.Needs.{needs}
 use Rattle.ranges.proofs.verdict.Statement.{statement}
 use Rattle.ranges.proofs.verdict.Tie as tie
 

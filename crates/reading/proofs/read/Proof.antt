@@ -1,8 +1,4 @@
-use denote.Ref.{now}
-use borrow.Author.Needs.{needs}
-use native.Mathlib.Omega.{arith}
-use mathlib.Core.Path.{refl, sym, ap, _∙_}
-use Prim.Native.Nat.{_-_}
+use Rattle.reading.proofs.Prelude.{now, needs, arith, refl, sym, ap, _∙_, _-_}
 use Rattle.figures.specs.Carried.{drawingOf}
 use Rattle.turns.specs.declared.progress.Reached.{Reached}
 use Rattle.turns.specs.View.{stateAt}

@@ -1,6 +1,5 @@
-use native.Mathlib.Omega.{arith}
+use Rattle.records.specs.Prelude.{arith, needs}
 use Rattle.records.proofs.Heads.{joined}
-use borrow.Author.Needs.{needs}
 use Rattle.records.proofs.join_bytes.Statement.{statement}
 use Rattle.records.proofs.join_bytes.Tie as tie
 

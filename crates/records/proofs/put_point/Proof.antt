@@ -1,8 +1,6 @@
-use denote.Ref.{now}
-use native.Mathlib.Omega.{arith}
+use Rattle.records.specs.Prelude.{now, arith, needs}
 use Rattle.rules.specs.Record.{word, words}
 use Rattle.records.proofs.Writes.{then}
-use borrow.Author.Needs.{needs}
 use Rattle.records.proofs.put_point.Statement.{statement}
 use Rattle.records.proofs.put_point.Tie as tie
 

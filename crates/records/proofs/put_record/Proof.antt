@@ -1,10 +1,6 @@
-use denote.Ref.{now}
-use mathlib.Core.Path.{ap, ap₂, _∙_}
-use mathlib.Core.List.{List, _++_}
-use Prim.Native.Nat.{ℕ}
+use Rattle.records.specs.Prelude.{now, ap, ap₂, _∙_, List, _++_, ℕ, needs}
 use Rattle.records.specs.Bytes.{overwrite}
 use Rattle.records.proofs.Heads.{record-bytes}
-use borrow.Author.Needs.{needs}
 use Rattle.records.proofs.put_record.Statement.{statement}
 use Rattle.records.proofs.put_record.Tie as tie
 

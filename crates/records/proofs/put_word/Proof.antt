@@ -1,10 +1,6 @@
-use denote.Ref.{now}
-use native.Mathlib.Numerals.{towards-suc}
-use native.Mathlib.Omega.{arith}
-use lib.ListN.{length-set}
+use Rattle.records.specs.Prelude.{now, towards-suc, arith, length-set, needs}
 use Rattle.rules.specs.Record.{word}
 use Rattle.records.proofs.Writes.{stored}
-use borrow.Author.Needs.{needs}
 use Rattle.records.proofs.put_word.Statement.{statement}
 use Rattle.records.proofs.put_word.Tie as tie
 

@@ -1,12 +1,7 @@
-use denote.Ref.{now}
-use mathlib.Core.List.{_++_}
-use Prim.Native.Nat.{_≤_}
-use native.Mathlib.Nat.{le-trans, le-add-right}
-use lib.ListN.{length}
+use Rattle.records.specs.Prelude.{now, _++_, _≤_, le-trans, le-add-right, length, needs}
 use Rattle.rules.specs.Record.{word, words}
 use Rattle.records.specs.Bytes.{headBytes}
 use Rattle.records.proofs.Writes.{then}
-use borrow.Author.Needs.{needs}
 use Rattle.records.proofs.put_words.Statement.{statement}
 use Rattle.records.proofs.put_words.Tie as tie
 

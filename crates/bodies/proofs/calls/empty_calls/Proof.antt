@@ -1,11 +1,6 @@
-use denote.Ref.{now}
+use Rattle.bodies.specs.Prelude.{now, not-false, needs, not-suc-le-zero, arith, _-_, _≤_}
 use Rattle.bodies.proofs.StackLaws.{calls-more}
 use Rattle.bodies.specs.Calls.{CallsEmpty}
-use borrow.Author.Tests.{not-false}
-use borrow.Author.Needs.{needs}
-use native.Mathlib.Nat.{not-suc-le-zero}
-use native.Mathlib.Omega.{arith}
-use Prim.Native.Nat.{_-_, _≤_}
 use Rattle.bodies.proofs.calls.empty_calls.Statement.{statement}
 use Rattle.bodies.proofs.calls.empty_calls.Tie as tie
 

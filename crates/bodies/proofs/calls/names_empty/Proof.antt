@@ -1,8 +1,5 @@
 use Rattle.rules.proofs.Bools.{false-true}
-use borrow.Author.Tests.{eqb-true}
-use native.Mathlib.Omega.{arith}
-use mathlib.Core.Path.{_∙_, sym}
-use borrow.Author.Needs.{needs}
+use Rattle.bodies.specs.Prelude.{eqb-true, arith, _∙_, sym, needs}
 use Rattle.bodies.proofs.calls.names_empty.Statement.{statement}
 use Rattle.bodies.proofs.calls.names_empty.Tie as tie
 

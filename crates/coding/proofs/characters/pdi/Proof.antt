@@ -1,6 +1,5 @@
-use borrow.Author.Tests.{lt-ltb, le-ltb}
+use Rattle.coding.specs.Prelude.{lt-ltb, le-ltb, needs}
 use Rattle.rules.specs.Coding.{graphic}
-use borrow.Author.Needs.{needs}
 use Rattle.coding.proofs.characters.pdi.Statement.{statement}
 use Rattle.coding.proofs.characters.pdi.Tie as tie
 

@@ -1,7 +1,6 @@
-use mathlib.Core.Path.{_∙_}
+use Rattle.coding.specs.Prelude.{_∙_, needs}
 use Rattle.coding.proofs.Answers.{unchanged}
 use Rattle.coding.proofs.DefinitionLaws.{name-below, name-above}
-use borrow.Author.Needs.{needs}
 use Rattle.coding.proofs.defining.take_name.Statement.{statement}
 use Rattle.coding.proofs.defining.take_name.Tie as tie
 

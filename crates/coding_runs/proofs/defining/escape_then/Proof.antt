@@ -1,7 +1,4 @@
-use mathlib.Core.Path.{sym, _∙_}
-use native.Mathlib.Omega.{arith}
-use borrow.Author.Needs.{needs}
-use borrow.Author.Tests.{eqb-true, ne-eqb}
+use Rattle.coding_runs.specs.Prelude.{sym, _∙_, arith, needs, eqb-true, ne-eqb}
 use Rattle.rules.specs.Numbers.{esc}
 use Rattle.rules.proofs.Bools.{false-true}
 use Rattle.coding_runs.proofs.defining.escape_then.Statement.{statement}

@@ -1,5 +1,4 @@
-use native.Mathlib.Omega.{arith}
-use borrow.Author.Needs.{needs}
+use Rattle.coding_runs.specs.Prelude.{arith, needs}
 use Rattle.coding_runs.proofs.DefinitionLaws.{end-idle}
 use Rattle.store.proofs.EachLaws.{each-join}
 use Rattle.coding_runs.proofs.IdleLaws.{stores-idle}

@@ -1,6 +1,4 @@
-use mathlib.Core.Path.{ap}
-use native.Mathlib.Omega.{arith}
-use borrow.Author.Needs.{needs}
+use Rattle.coding_runs.specs.Prelude.{ap, arith, needs}
 use Rattle.rules.specs.Ranges.{waitingFits}
 use Rattle.coding.proofs.ReactLaws.{is-name}
 use Rattle.coding_runs.specs.declared.defining.Defined.{Defined}

@@ -1,6 +1,4 @@
-use mathlib.Core.Path.{ap}
-use native.Mathlib.Omega.{arith}
-use borrow.Author.Needs.{needs}
+use Rattle.coding_runs.specs.Prelude.{ap, arith, needs}
 use Rattle.coding_runs.specs.declared.defining.Defined.{Defined}
 use Rattle.coding_runs.proofs.DefinitionLaws.{opening-idle, none-idle}
 use Rattle.coding_runs.proofs.defining.run_opening.Statement.{statement}

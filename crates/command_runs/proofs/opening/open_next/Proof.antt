@@ -1,11 +1,9 @@
-use native.Mathlib.Omega.{arith}
-use mathlib.Core.Path.{sym, ap, _∙_}
+use Rattle.command_runs.specs.Prelude.{arith, sym, ap, _∙_, needs}
 use Rattle.rules.specs.declared.Command.{Command}
 use Rattle.rules.specs.Drawing.{rowOf}
 use Rattle.figures.proofs.Carrying.{puts-carried}
 use Rattle.command_runs.proofs.OpeningLaws.{closed, next-control, next-opened}
 use Rattle.command_runs.proofs.CommandLaws.{row-control}
-use borrow.Author.Needs.{needs}
 use Rattle.command_runs.proofs.opening.open_next.Statement.{statement}
 use Rattle.command_runs.proofs.opening.open_next.Tie as tie
 

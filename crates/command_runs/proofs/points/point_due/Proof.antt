@@ -1,7 +1,5 @@
-use native.Mathlib.Omega.{arith}
-use mathlib.Core.Path.{sym, _∙_}
+use Rattle.command_runs.specs.Prelude.{arith, sym, _∙_, needs}
 use Rattle.command_runs.proofs.PointLaws.{cut-whole}
-use borrow.Author.Needs.{needs}
 use Rattle.command_runs.proofs.points.point_due.Statement.{statement}
 use Rattle.command_runs.proofs.points.point_due.Tie as tie
 

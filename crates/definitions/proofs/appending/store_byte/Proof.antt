@@ -1,8 +1,6 @@
-use mathlib.Core.Path.{refl}
-use borrow.Author.Tests.{eq-eqb, ne-eqb, lt-ltb, le-ltb, not-true, not-false}
+use Rattle.definitions.specs.Prelude.{refl, eq-eqb, ne-eqb, lt-ltb, le-ltb, not-true, not-false, needs}
 use Rattle.rules.specs.Store.{storeByte}
 use Rattle.definitions.proofs.StoringLaws.{in-stored}
-use borrow.Author.Needs.{needs}
 use Rattle.definitions.proofs.appending.store_byte.Statement.{statement}
 use Rattle.definitions.proofs.appending.store_byte.Tie as tie
 

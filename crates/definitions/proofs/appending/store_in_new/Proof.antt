@@ -1,6 +1,5 @@
-use mathlib.Core.Path.{refl, sym, _∙_}
+use Rattle.definitions.specs.Prelude.{refl, sym, _∙_, needs}
 use Rattle.definitions.proofs.StoringLaws.{new-none, new-stored}
-use borrow.Author.Needs.{needs}
 use Rattle.definitions.proofs.appending.store_in_new.Statement.{statement}
 use Rattle.definitions.proofs.appending.store_in_new.Tie as tie
 

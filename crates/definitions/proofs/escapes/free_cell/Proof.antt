@@ -1,6 +1,5 @@
-use borrow.Author.Tests.{eq-eqb, ne-eqb}
+use Rattle.definitions.specs.Prelude.{eq-eqb, ne-eqb, needs}
 use Rattle.definitions.specs.Room.{freeCell}
-use borrow.Author.Needs.{needs}
 use Rattle.definitions.proofs.escapes.free_cell.Statement.{statement}
 use Rattle.definitions.proofs.escapes.free_cell.Tie as tie
 

@@ -1,6 +1,5 @@
-use borrow.Author.Tests.{eq-eqb, ne-eqb, lt-ltb, le-ltb, not-true, not-false}
+use Rattle.definitions.specs.Prelude.{eq-eqb, ne-eqb, lt-ltb, le-ltb, not-true, not-false, needs}
 use Rattle.definitions.specs.Room.{roomForTwo}
-use borrow.Author.Needs.{needs}
 use Rattle.definitions.proofs.escapes.room_for_two.Statement.{statement}
 use Rattle.definitions.proofs.escapes.room_for_two.Tie as tie
 

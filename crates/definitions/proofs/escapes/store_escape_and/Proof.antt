@@ -1,9 +1,7 @@
-use mathlib.Core.Path.{refl, sym, _∙_}
-use native.Mathlib.Omega.{arith}
+use Rattle.definitions.specs.Prelude.{refl, sym, _∙_, arith, needs}
 use Rattle.rules.specs.Store.{nextOf}
 use Rattle.definitions.proofs.EscapeLaws.{two-refused, first-stored, both-stored}
 use Rattle.definitions.proofs.StoringLaws.{same-name}
-use borrow.Author.Needs.{needs}
 use Rattle.definitions.proofs.escapes.store_escape_and.Statement.{statement}
 use Rattle.definitions.proofs.escapes.store_escape_and.Tie as tie
 

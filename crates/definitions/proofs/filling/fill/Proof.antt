@@ -1,9 +1,4 @@
-use mathlib.Core.Path.{_≡_}
-use Prim.Native.Nat.{_+_, _-_, _≤_}
-use native.Mathlib.Omega.{arith}
-use lib.ListN.{length}
-use borrow.Author.Needs.{needs}
-use borrow.Author.Tests.{not-false}
+use Rattle.definitions.specs.Prelude.{_≡_, _+_, _-_, _≤_, arith, length, needs, not-false}
 use Rattle.store.specs.Each.{none}
 use Rattle.store.specs.Runs.{Stores}
 use Rattle.store.proofs.EachLaws.{each-on, each-join}

@@ -1,10 +1,7 @@
-use mathlib.Core.Path.{sym, _∙_}
-use native.Mathlib.Omega.{arith}
-use borrow.Author.Tests.{not-false}
+use Rattle.definitions.specs.Prelude.{sym, _∙_, arith, not-false, needs}
 use Rattle.store.specs.Each.{none}
 use Rattle.store.proofs.CellLaws.{good-most}
 use Rattle.definitions.proofs.RunLaws.{run-stored}
-use borrow.Author.Needs.{needs}
 use Rattle.definitions.proofs.filling.store_run.Statement.{statement}
 use Rattle.definitions.proofs.filling.store_run.Tie as tie
 

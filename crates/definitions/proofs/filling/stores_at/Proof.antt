@@ -1,9 +1,6 @@
-use mathlib.Core.Path.{sym, ap, _∙_}
-use mathlib.Core.Bool.{not}
-use borrow.Author.Tests.{eq-eqb}
+use Rattle.definitions.specs.Prelude.{sym, ap, _∙_, not, eq-eqb, needs}
 use Rattle.rules.specs.Numbers.{esc}
 use Rattle.rules.proofs.Bools.{false-true}
-use borrow.Author.Needs.{needs}
 use Rattle.definitions.proofs.filling.stores_at.Statement.{statement}
 use Rattle.definitions.proofs.filling.stores_at.Tie as tie
 

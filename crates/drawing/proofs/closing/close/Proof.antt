@@ -1,8 +1,6 @@
-use native.Mathlib.Omega.{arith}
-use mathlib.Core.Path.{_∙_}
+use Rattle.drawing.proofs.Prelude.{arith, _∙_, needs}
 use Rattle.figures.specs.Carried.{carry}
 use Rattle.drawing.proofs.ClosingLaws.{complete-place, close-refused, close-drawn}
-use borrow.Author.Needs.{needs}
 use Rattle.drawing.proofs.closing.close.Statement.{statement}
 use Rattle.drawing.proofs.closing.close.Tie as tie
 

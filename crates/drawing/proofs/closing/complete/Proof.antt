@@ -1,6 +1,5 @@
-use mathlib.Core.Path.{_∙_}
+use Rattle.drawing.proofs.Prelude.{_∙_, needs}
 use Rattle.drawing.proofs.ClosingLaws.{none-begun, some-begun}
-use borrow.Author.Needs.{needs}
 use Rattle.drawing.proofs.closing.complete.Statement.{statement}
 use Rattle.drawing.proofs.closing.complete.Tie as tie
 

@@ -1,10 +1,9 @@
-use mathlib.Core.Path.{refl, sym, _∙_}
+use Rattle.drawing.proofs.Prelude.{refl, sym, _∙_, needs}
 use Rattle.rules.specs.Drawing.{finish}
 use Rattle.figures.specs.Carried.{carry}
 use Rattle.figures.specs.Tracing.{Inks}
 use Rattle.figures.proofs.Carrying.{puts-carried}
 use Rattle.figures.proofs.FinishLaws.{not-foreground}
-use borrow.Author.Needs.{needs}
 use Rattle.drawing.proofs.closing.finish.Statement.{statement}
 use Rattle.drawing.proofs.closing.finish.Tie as tie
 

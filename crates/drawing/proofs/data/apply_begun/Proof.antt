@@ -1,6 +1,5 @@
-use native.Mathlib.Omega.{arith}
+use Rattle.drawing.proofs.Prelude.{arith, needs}
 use Rattle.drawing.proofs.OperandLaws.{begun-refused, begun-drawn}
-use borrow.Author.Needs.{needs}
 use Rattle.drawing.proofs.data.apply_begun.Statement.{statement}
 use Rattle.drawing.proofs.data.apply_begun.Tie as tie
 

@@ -1,6 +1,5 @@
-use mathlib.Core.Path.{_∙_}
+use Rattle.drawing.proofs.Prelude.{_∙_, needs}
 use Rattle.drawing.proofs.OperandLaws.{data-dropped, data-joined, last-refused, last-drawn}
-use borrow.Author.Needs.{needs}
 use Rattle.drawing.proofs.data.data_byte.Statement.{statement}
 use Rattle.drawing.proofs.data.data_byte.Tie as tie
 

@@ -1,5 +1,4 @@
-use native.Mathlib.Numerals.{add-one}
-use borrow.Author.Needs.{needs}
+use Rattle.drawing.proofs.Prelude.{add-one, needs}
 use Rattle.drawing.proofs.data.join_byte.Statement.{statement}
 use Rattle.drawing.proofs.data.join_byte.Tie as tie
 

@@ -1,6 +1,5 @@
-use mathlib.Core.Path.{_∙_}
+use Rattle.drawing.proofs.Prelude.{_∙_, needs}
 use Rattle.figures.specs.Carried.{carry}
-use borrow.Author.Needs.{needs}
 use Rattle.drawing.proofs.data.next_operand.Statement.{statement}
 use Rattle.drawing.proofs.data.next_operand.Tie as tie
 

@@ -1,8 +1,6 @@
-use native.Mathlib.Nat.{le-add-right, le-refl}
-use mathlib.Core.Path.{ap}
+use Rattle.drawing.proofs.Prelude.{le-add-right, le-refl, ap, needs}
 use Rattle.rules.specs.declared.Command.{Command}
 use Rattle.drawing.proofs.ActionLaws.{open-marked, open-unmarked}
-use borrow.Author.Needs.{needs}
 use Rattle.drawing.proofs.opening.open_at.Statement.{statement}
 use Rattle.drawing.proofs.opening.open_at.Tie as tie
 

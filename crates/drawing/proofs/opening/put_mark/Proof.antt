@@ -1,10 +1,6 @@
-use denote.Ref.{now}
-use mathlib.Core.Path.{ap, _∙_}
-use mathlib.Core.List.{List}
-use Prim.Native.Nat.{ℕ}
+use Rattle.drawing.proofs.Prelude.{now, ap, _∙_, List, ℕ, needs}
 use Rattle.records.specs.Bytes.{overwrite}
 use Rattle.drawing.proofs.ActionLaws.{mark-bytes}
-use borrow.Author.Needs.{needs}
 use Rattle.drawing.proofs.opening.put_mark.Statement.{statement}
 use Rattle.drawing.proofs.opening.put_mark.Tie as tie
 

@@ -1,8 +1,4 @@
-use mathlib.Core.Path.{refl}
-use native.Mathlib.Omega.{arith}
-use denote.Ref.{now}
-use borrow.Author.Needs.{needs}
-use borrow.Author.Tests.{not-false}
+use Rattle.drawing_runs.specs.Prelude.{refl, arith, now, needs, not-false}
 use Rattle.drawing_runs.specs.Run.{none}
 use Rattle.drawing_runs.proofs.StrokeLaws.{point-set-row, line-row}
 use Rattle.drawing_runs.proofs.strokes.draw_strokes.Statement.{statement}

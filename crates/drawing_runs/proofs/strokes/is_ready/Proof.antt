@@ -1,5 +1,4 @@
-use borrow.Author.Needs.{needs}
-use borrow.Author.Tests.{not-false}
+use Rattle.drawing_runs.specs.Prelude.{needs, not-false}
 use Rattle.rules.proofs.Bools.{false-true}
 use Rattle.drawing_runs.proofs.StrokeLaws.{ready-told}
 use Rattle.drawing_runs.proofs.strokes.is_ready.Statement.{statement}

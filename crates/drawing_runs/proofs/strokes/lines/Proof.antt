@@ -1,14 +1,6 @@
-use mathlib.Core.List.{List}
+use Rattle.drawing_runs.specs.Prelude.{List, _≡_, refl, sym, _∙_, false, ℕ, _+_, _*_, _-_, _≤_, arith, length, now, needs, not-false}
 use Rattle.records.specs.declared.Head.{Head}
 use Rattle.rules.specs.declared.Point.{Point}
-use mathlib.Core.Path.{_≡_, refl, sym, _∙_}
-use mathlib.Core.Bool.{false}
-use Prim.Native.Nat.{ℕ, _+_, _*_, _-_, _≤_}
-use native.Mathlib.Omega.{arith}
-use lib.ListN.{length}
-use denote.Ref.{now}
-use borrow.Author.Needs.{needs}
-use borrow.Author.Tests.{not-false}
 use Rattle.rules.specs.Numbers.{roomForStep}
 use Rattle.rules.specs.Operands.{point}
 use Rattle.operands.specs.Data.{allData}

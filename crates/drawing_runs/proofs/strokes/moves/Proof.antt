@@ -1,11 +1,4 @@
-use mathlib.Core.Path.{sym, _∙_}
-use mathlib.Core.Bool.{false}
-use Prim.Native.Nat.{_+_, _-_, _≤_}
-use native.Mathlib.Omega.{arith}
-use lib.ListN.{length}
-use denote.Ref.{now}
-use borrow.Author.Needs.{needs}
-use borrow.Author.Tests.{not-false}
+use Rattle.drawing_runs.specs.Prelude.{sym, _∙_, false, _+_, _-_, _≤_, arith, length, now, needs, not-false}
 use Rattle.rules.specs.Operands.{point}
 use Rattle.operands.specs.Data.{allData}
 use Rattle.operands.proofs.WholeLaws.{three-told}

@@ -1,8 +1,4 @@
-use mathlib.Core.Path.{_≡_, refl}
-use Prim.Native.Nat.{_≤_, _-_}
-use native.Mathlib.Omega.{arith}
-use lib.ListN.{length}
-use borrow.Author.Needs.{needs}
+use Rattle.drawing_runs.specs.Prelude.{_≡_, refl, _≤_, _-_, arith, length, needs}
 use Rattle.drawing_runs.proofs.TextLaws.{Typed, typed-none, typed-on}
 use Rattle.drawing_runs.proofs.text.put_characters.Statement.{statement}
 use Rattle.drawing_runs.proofs.text.put_characters.Tie as tie

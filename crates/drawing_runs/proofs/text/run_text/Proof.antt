@@ -1,9 +1,6 @@
-use Prim.Native.Nat.{_-_}
-use native.Mathlib.Omega.{arith}
-use denote.Ref.{now}
+use Rattle.drawing_runs.specs.Prelude.{_-_, arith, now, needs}
 use Rattle.drawing_runs.specs.Run.{standing}
 use Rattle.drawing_runs.proofs.TextLaws.{ran-none, ran-some}
-use borrow.Author.Needs.{needs}
 use Rattle.drawing_runs.proofs.text.run_text.Statement.{statement}
 use Rattle.drawing_runs.proofs.text.run_text.Tie as tie
 

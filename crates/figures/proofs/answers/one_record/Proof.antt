@@ -1,6 +1,5 @@
-use mathlib.Core.Path.{sym}
+use Rattle.figures.specs.Prelude.{sym, needs}
 use Rattle.figures.proofs.Carrying.{carry-one}
-use borrow.Author.Needs.{needs}
 use Rattle.figures.proofs.answers.one_record.Statement.{statement}
 use Rattle.figures.proofs.answers.one_record.Tie as tie
 

@@ -1,5 +1,4 @@
-use native.Mathlib.Numerals.{add-one}
-use borrow.Author.Needs.{needs}
+use Rattle.figures.specs.Prelude.{add-one, needs}
 use Rattle.figures.proofs.tracing.longer.Statement.{statement}
 use Rattle.figures.proofs.tracing.longer.Tie as tie
 

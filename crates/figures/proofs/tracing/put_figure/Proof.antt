@@ -1,11 +1,6 @@
-use native.Mathlib.Nat.{le-add-right, le-refl}
-use denote.Ref.{now}
-use mathlib.Core.Path.{ap, _∙_}
-use mathlib.Core.List.{List}
-use Prim.Native.Nat.{ℕ}
+use Rattle.figures.specs.Prelude.{le-add-right, le-refl, now, ap, _∙_, List, ℕ, needs}
 use Rattle.records.specs.Bytes.{overwrite}
 use Rattle.figures.proofs.TraceLaws.{figure-bytes, put-none, put-one}
-use borrow.Author.Needs.{needs}
 use Rattle.figures.proofs.tracing.put_figure.Statement.{statement}
 use Rattle.figures.proofs.tracing.put_figure.Tie as tie
 

@@ -1,8 +1,7 @@
-use mathlib.Core.Path.{refl, ap, _∙_}
+use Rattle.figures.specs.Prelude.{refl, ap, _∙_, needs}
 use Rattle.rules.specs.declared.Command.{Command}
 use Rattle.figures.proofs.TraceLaws.{trace-move, trace-start, trace-middle, trace-arc, trace-edge, trace-stroke, edge-room}
 use Rattle.figures.proofs.TraceLaws.{stroke-point, stroke-line, stroke-rectangle, stroke-none}
-use borrow.Author.Needs.{needs}
 use Rattle.figures.proofs.tracing.trace.Statement.{statement}
 use Rattle.figures.proofs.tracing.trace.Tie as tie
 

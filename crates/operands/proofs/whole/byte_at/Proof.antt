@@ -1,5 +1,4 @@
-use mathlib.Core.Path.{refl}
-use borrow.Author.Needs.{needs, fits-under}
+use Rattle.operands.specs.Prelude.{refl, needs, fits-under}
 use Rattle.operands.proofs.WholeLaws.{byte-most}
 use Rattle.operands.proofs.whole.byte_at.Statement.{statement}
 use Rattle.operands.proofs.whole.byte_at.Tie as tie

@@ -1,9 +1,4 @@
-use mathlib.Core.Path.{_≡_, refl}
-use mathlib.Core.Bool.{true}
-use Prim.Native.Nat.{_-_, _≤_}
-use lib.ListN.{take, drop}
-use denote.Ref.{now}
-use borrow.Author.Needs.{needs}
+use Rattle.operands.specs.Prelude.{_≡_, refl, true, _-_, _≤_, take, drop, now, needs}
 use Rattle.rules.specs.Operands.{bitsOf, fromTop, point}
 use Rattle.operands.specs.Data.{allData}
 use Rattle.operands.proofs.WholeLaws.{long-more, long-point, long-cut, long-whole}

@@ -1,6 +1,5 @@
-use native.Mathlib.Omega.{arith}
+use Rattle.operands.specs.Prelude.{arith, needs}
 use Rattle.operands.proofs.WholeLaws.{is-three}
-use borrow.Author.Needs.{needs}
 use Rattle.operands.proofs.whole.whole_point.Statement.{statement}
 use Rattle.operands.proofs.whole.whole_point.Tie as tie
 

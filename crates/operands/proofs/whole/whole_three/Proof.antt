@@ -1,12 +1,8 @@
-use mathlib.Core.Path.{sym, ap, _∙_}
-use mathlib.Core.Bool.{false}
-use denote.Ref.{now}
-use borrow.Author.Tests.{not-true, not-false}
+use Rattle.operands.specs.Prelude.{sym, ap, _∙_, false, now, not-true, not-false, needs}
 use Rattle.rules.specs.Operands.{point}
 use Rattle.operands.specs.Data.{allData}
 use Rattle.operands.specs.declared.whole.Whole.the-variants.{Whole as Whole·point}
 use Rattle.operands.proofs.WholeLaws.{three-told, is-cut, is-whole}
-use borrow.Author.Needs.{needs}
 use Rattle.operands.proofs.whole.whole_three.Statement.{statement}
 use Rattle.operands.proofs.whole.whole_three.Tie as tie
 

@@ -1,5 +1,4 @@
-use mathlib.Core.Path.{refl}
-use borrow.Author.Tests.{le-leb, lt-leb}
+use Rattle.ranges.specs.Prelude.{refl, le-leb, lt-leb}
 use Rattle.rules.specs.Ranges.{colourFits}
 use Rattle.ranges.proofs.RangeLaws.{and-first, and-second}
 use Rattle.ranges.proofs.drawing_state.colour_fits.Statement.{statement}

@@ -1,6 +1,5 @@
-use borrow.Author.Tests.{eq-eqb, ne-eqb}
+use Rattle.ranges.specs.Prelude.{eq-eqb, ne-eqb, needs}
 use Rattle.rules.specs.Ranges.{opcodeFits}
-use borrow.Author.Needs.{needs}
 use Rattle.ranges.proofs.drawing_state.opcode_fits.Statement.{statement}
 use Rattle.ranges.proofs.drawing_state.opcode_fits.Tie as tie
 

@@ -1,6 +1,5 @@
-use borrow.Author.Tests.{eq-eqb, ne-eqb}
+use Rattle.ranges.specs.Prelude.{eq-eqb, ne-eqb, needs}
 use Rattle.rules.specs.Ranges.{begunFits}
-use borrow.Author.Needs.{needs}
 use Rattle.ranges.proofs.drawing_state.operand_fits.Statement.{statement}
 use Rattle.ranges.proofs.drawing_state.operand_fits.Tie as tie
 

@@ -1,5 +1,4 @@
-use borrow.Author.Needs.{needs}
-use borrow.Author.Tests.{le-leb, lt-leb}
+use Rattle.ranges.specs.Prelude.{needs, le-leb, lt-leb}
 use Rattle.rules.specs.Ranges.{bodiesFit}
 use Rattle.ranges.proofs.stack.bodies_fit.Statement.{statement}
 use Rattle.ranges.proofs.stack.bodies_fit.Tie as tie

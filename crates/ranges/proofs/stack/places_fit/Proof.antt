@@ -1,7 +1,4 @@
-use mathlib.Core.Path.{_≡_, refl, _∙_, sym}
-use Prim.Native.Nat.{_≤_, _-_}
-use native.Mathlib.Omega.{arith}
-use lib.ListN.{length, drop}
+use Rattle.ranges.specs.Prelude.{_≡_, refl, _∙_, sym, _≤_, _-_, arith, length, drop}
 use Rattle.rules.specs.Ranges.{placesFit}
 use Rattle.ranges.proofs.RangeLaws.{fit-on, fit-not, fit-end}
 use Rattle.ranges.proofs.stack.places_fit.Statement.{statement}

@@ -1,7 +1,6 @@
-use borrow.Author.Tests.{lt-leb, le-leb}
+use Rattle.reader.specs.Prelude.{lt-leb, le-leb, needs}
 use Rattle.rules.specs.Calls.{colour}
 use Rattle.reader.proofs.Promising.{shades}
-use borrow.Author.Needs.{needs}
 use Rattle.reader.proofs.colour.colour.Statement.{statement}
 use Rattle.reader.proofs.colour.colour.Tie as tie
 

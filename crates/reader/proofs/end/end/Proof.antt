@@ -1,9 +1,7 @@
 use Rattle.reader.proofs.EndLaws.{end-fails, end-valid, end-is}
 use Rattle.reader.proofs.Promising.{ends}
 use Rattle.rules.specs.Reading.{tests}
-use denote.Ref.{now}
-use mathlib.Core.Path.{_∙_}
-use borrow.Author.Needs.{needs}
+use Rattle.reader.specs.Prelude.{now, _∙_, needs}
 use Rattle.reader.proofs.end.end.Statement.{statement}
 use Rattle.reader.proofs.end.end.Tie as tie
 

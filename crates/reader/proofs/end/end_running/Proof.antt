@@ -1,7 +1,6 @@
-use mathlib.Core.Path.{sym, _∙_}
+use Rattle.reader.specs.Prelude.{sym, _∙_, needs}
 use Rattle.rules.proofs.Steps.{valid-store, valid-depth}
 use Rattle.reader.proofs.EndLaws.{left-answer, inside-answer, none-answer, full-answer, close-answer}
-use borrow.Author.Needs.{needs}
 use Rattle.reader.proofs.end.end_running.Statement.{statement}
 use Rattle.reader.proofs.end.end_running.Tie as tie
 

@@ -1,9 +1,7 @@
 use Rattle.reader.proofs.FeedLaws.{feed-fails, feed-valid, feed-passes}
 use Rattle.reader.proofs.Promising.{feeds}
 use Rattle.rules.specs.Reading.{tests}
-use denote.Ref.{now}
-use mathlib.Core.Path.{_∙_}
-use borrow.Author.Needs.{needs}
+use Rattle.reader.specs.Prelude.{now, _∙_, needs}
 use Rattle.reader.proofs.feed.feed.Statement.{statement}
 use Rattle.reader.proofs.feed.feed.Tie as tie
 

@@ -1,6 +1,5 @@
 use Rattle.reader.proofs.FeedLaws.{fed-from}
-use denote.Ref.{now}
-use borrow.Author.Needs.{needs}
+use Rattle.reader.specs.Prelude.{now, needs}
 use Rattle.reader.proofs.feed.feed_from.Statement.{statement}
 use Rattle.reader.proofs.feed.feed_from.Tie as tie
 

@@ -1,7 +1,6 @@
-use borrow.Author.Tests.{ne-eqb, eq-eqb}
+use Rattle.reader.specs.Prelude.{ne-eqb, eq-eqb, needs}
 use Rattle.rules.specs.Calls.{openPage, openAs, freshState}
 use Rattle.reader.proofs.Promising.{opens}
-use borrow.Author.Needs.{needs}
 use Rattle.reader.proofs.open.open.Statement.{statement}
 use Rattle.reader.proofs.open.open.Tie as tie
 

@@ -1,6 +1,5 @@
 use Rattle.reader.proofs.FeedLaws.{unread-part}
-use denote.Ref.{now}
-use borrow.Author.Needs.{needs}
+use Rattle.reader.specs.Prelude.{now, needs}
 use Rattle.reader.proofs.unread.unread.Statement.{statement}
 use Rattle.reader.proofs.unread.unread.Tie as tie
 

@@ -1,8 +1,4 @@
-use Prim.Native.Nat.{_≤_, _-_}
-use native.Mathlib.Omega.{arith}
-use mathlib.Core.Path.{_≡_, refl}
-use lib.ListN.{length, length-set}
-use borrow.Author.Needs.{needs}
+use Rattle.store.specs.Prelude.{_≤_, _-_, arith, _≡_, refl, length, length-set, needs}
 use Rattle.store.specs.Runs.{Laid, none}
 use Rattle.store.proofs.RunLaws.{laid-on}
 use Rattle.store.proofs.cells.lay_bytes.Statement.{statement}

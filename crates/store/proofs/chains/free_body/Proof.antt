@@ -1,6 +1,5 @@
-use mathlib.Core.Path.{refl, _∙_, sym}
+use Rattle.store.specs.Prelude.{refl, _∙_, sym, needs}
 use Rattle.store.proofs.ChainLaws.{free-none, free-long, free-ends}
-use borrow.Author.Needs.{needs}
 use Rattle.store.proofs.chains.free_body.Statement.{statement}
 use Rattle.store.proofs.chains.free_body.Tie as tie
 

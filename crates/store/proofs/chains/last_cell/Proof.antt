@@ -1,6 +1,4 @@
-use mathlib.Core.Path.{_≡_, refl, _∙_, sym}
-use Prim.Native.Nat.{_<_, _≤_, _-_}
-use native.Mathlib.Omega.{arith}
+use Rattle.store.specs.Prelude.{_≡_, refl, _∙_, sym, _<_, _≤_, _-_, arith}
 use Rattle.rules.specs.Store.{lastCell}
 use Rattle.store.proofs.ChainLaws.{last-none, last-here, last-on}
 use Rattle.store.proofs.chains.last_cell.Statement.{statement}

@@ -1,6 +1,5 @@
-use borrow.Author.Tests.{eq-eqb, ne-eqb, lt-ltb, le-ltb}
+use Rattle.store.specs.Prelude.{eq-eqb, ne-eqb, lt-ltb, le-ltb, needs}
 use Rattle.rules.specs.Bodies.{hasLeft}
-use borrow.Author.Needs.{needs}
 use Rattle.store.proofs.cursors.has_left.Statement.{statement}
 use Rattle.store.proofs.cursors.has_left.Tie as tie
 

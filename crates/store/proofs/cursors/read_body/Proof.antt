@@ -1,9 +1,6 @@
-use mathlib.Core.Path.{_∙_, sym}
-use native.Mathlib.Omega.{arith}
-use borrow.Author.Tests.{lt-ltb, le-ltb, le-leb, lt-leb, not-true, not-false}
+use Rattle.store.specs.Prelude.{_∙_, sym, arith, lt-ltb, le-ltb, le-leb, lt-leb, not-true, not-false, needs}
 use Rattle.rules.specs.Bodies.{readBody}
 use Rattle.store.proofs.CellLaws.{good-most}
-use borrow.Author.Needs.{needs}
 use Rattle.store.proofs.cursors.read_body.Statement.{statement}
 use Rattle.store.proofs.cursors.read_body.Tie as tie
 

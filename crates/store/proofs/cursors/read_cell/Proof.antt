@@ -1,6 +1,5 @@
-use native.Mathlib.Numerals.{add-one}
+use Rattle.store.specs.Prelude.{add-one, needs}
 use Rattle.rules.specs.Bodies.{readCell}
-use borrow.Author.Needs.{needs}
 use Rattle.store.proofs.cursors.read_cell.Statement.{statement}
 use Rattle.store.proofs.cursors.read_cell.Tie as tie
 

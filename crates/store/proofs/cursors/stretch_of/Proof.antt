@@ -1,10 +1,6 @@
 use Rattle.store.proofs.CellLaws.{good-most}
 use Rattle.store.proofs.StretchLaws.{stretches-none, stretches-cell}
-use borrow.Author.Tests.{not-false}
-use denote.Ref.{now}
-use native.Mathlib.Omega.{arith}
-use mathlib.Core.Path.{_∙_, sym}
-use borrow.Author.Needs.{needs}
+use Rattle.store.specs.Prelude.{not-false, now, arith, _∙_, sym, needs}
 use Rattle.store.proofs.cursors.stretch_of.Statement.{statement}
 use Rattle.store.proofs.cursors.stretch_of.Tie as tie
 

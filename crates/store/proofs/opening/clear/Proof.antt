@@ -1,8 +1,4 @@
-use mathlib.Core.Path.{_≡_, refl, _∙_, ap}
-use mathlib.Core.List.{List, _++_}
-use Prim.Native.Nat.{ℕ, _≤_, _-_}
-use native.Mathlib.Omega.{arith}
-use lib.ListN.{length, drop, set, replicate, length-set}
+use Rattle.store.specs.Prelude.{_≡_, refl, _∙_, ap, List, _++_, ℕ, _≤_, _-_, arith, length, drop, set, replicate, length-set}
 use Rattle.rules.proofs.Lists.{fill-more, fill-all}
 use Rattle.store.proofs.opening.clear.Statement.{statement}
 use Rattle.store.proofs.opening.clear.Tie as tie

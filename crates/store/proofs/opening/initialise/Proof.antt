@@ -1,7 +1,4 @@
-use mathlib.Core.Path.{_∙_, ap}
-use Prim.Native.Nat.{ℕ}
-use lib.ListN.{replicate}
-use borrow.Author.Needs.{needs}
+use Rattle.store.specs.Prelude.{_∙_, ap, ℕ, replicate, needs}
 use Rattle.store.proofs.opening.initialise.Statement.{statement}
 use Rattle.store.proofs.opening.initialise.Tie as tie
 

@@ -1,11 +1,6 @@
-use mathlib.Core.Path.{_≡_, _∙_, ap}
-use mathlib.Core.List.{List}
-use Prim.Native.Nat.{ℕ, _≤_, _-_, _+_}
-use native.Mathlib.Omega.{arith}
-use lib.ListN.{length, length-replicate}
+use Rattle.store.specs.Prelude.{_≡_, _∙_, ap, List, ℕ, _≤_, _-_, _+_, arith, length, length-replicate, needs}
 use Rattle.rules.specs.Store.{setNext}
 use Rattle.store.proofs.CellLaws.{length-setNext, linkedTo, linked-none, linked-more, linked-all}
-use borrow.Author.Needs.{needs}
 use Rattle.store.proofs.opening.link.Statement.{statement}
 use Rattle.store.proofs.opening.link.Tie as tie
 

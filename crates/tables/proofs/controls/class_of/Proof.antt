@@ -1,5 +1,4 @@
-use mathlib.Core.Path.{refl}
-use native.Mathlib.Omega.{arith}
+use Rattle.tables.proofs.Prelude.{refl, arith}
 use Rattle.rules.specs.declared.Control.the-variants.{Ignored, Recorded}
 use Rattle.rules.specs.Coding.{controls, classOf}
 use Rattle.tables.proofs.Classes.{below, past, column-2, above}

@@ -1,5 +1,4 @@
-use mathlib.Core.Path.{_∙_, sym, ap}
-use borrow.Author.Needs.{needs}
+use Rattle.tables.proofs.Prelude.{_∙_, sym, ap, needs}
 use Rattle.rules.specs.declared.Class.the-variants.{Below}
 use Rattle.rules.proofs.Bools.{false-true}
 use Rattle.tables.proofs.Classes.{recorded}

@@ -1,5 +1,4 @@
-use Prim.Native.Nat.{_-_}
-use borrow.Author.Needs.{needs}
+use Rattle.tables.proofs.Prelude.{_-_, needs}
 use Rattle.rules.specs.declared.Waiting.the-variants.{Longer}
 use Rattle.rules.specs.Coding.{designators, designatorOf}
 use Rattle.rules.proofs.Tables.{at, before, past}

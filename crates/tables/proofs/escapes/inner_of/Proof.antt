@@ -1,5 +1,4 @@
-use borrow.Author.Tests.{ne-eqb}
-use native.Mathlib.Omega.{arith}
+use Rattle.tables.proofs.Prelude.{ne-eqb, arith}
 use Rattle.rules.specs.Numbers.{esc}
 use Rattle.rules.specs.Coding.{innerOf}
 use Rattle.rules.proofs.Spans.{inside, under, over}

@@ -1,5 +1,4 @@
-use mathlib.Core.Path.{_∙_}
-use borrow.Author.Needs.{needs}
+use Rattle.tables.proofs.Prelude.{_∙_, needs}
 use Rattle.rules.specs.Drawing.{dueAfter}
 use Rattle.tables.proofs.Rest.{due-otherwise}
 use Rattle.tables.proofs.opcodes.due_after.Statement.{statement}

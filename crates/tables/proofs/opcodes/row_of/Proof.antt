@@ -1,6 +1,4 @@
-use Prim.Native.Nat.{_-_}
-use mathlib.Core.Path.{_∙_}
-use borrow.Author.Needs.{needs}
+use Rattle.tables.proofs.Prelude.{_-_, _∙_, needs}
 use Rattle.rules.specs.Drawing.{rows, other}
 use Rattle.rules.proofs.OpcodeRows.{row-at}
 use Rattle.rules.proofs.Tables.{at, before, past}

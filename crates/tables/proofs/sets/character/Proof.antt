@@ -1,9 +1,4 @@
-use mathlib.Core.Path.{_≡_, refl}
-use mathlib.Core.Bool.{false}
-use Prim.Native.Nat.{ℕ}
-use lib.Dec.{eqb}
-use borrow.Author.Needs.{needs}
-use borrow.Author.Tests.{ne-eqb}
+use Rattle.tables.proofs.Prelude.{_≡_, refl, false, ℕ, eqb, needs, ne-eqb}
 use Rattle.rules.specs.declared.Repertoire.{Repertoire}
 use Rattle.rules.specs.declared.Repertoire.the-variants.{Primary, Supplementary, Mosaic, Drcs}
 use Rattle.rules.specs.declared.Action.the-variants.{Character}

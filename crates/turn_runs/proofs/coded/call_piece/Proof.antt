@@ -1,8 +1,6 @@
-use denote.Ref.{now}
-use native.Mathlib.Omega.{arith}
+use Rattle.turn_runs.specs.Prelude.{now, arith, needs}
 use Rattle.turn_runs.proofs.ProgressLaws.{walk-calls, coded-most, coded-more}
 use Rattle.turn_runs.specs.Walk.{none}
-use borrow.Author.Needs.{needs}
 use Rattle.turn_runs.proofs.coded.call_piece.Statement.{statement}
 use Rattle.turn_runs.proofs.coded.call_piece.Tie as tie
 

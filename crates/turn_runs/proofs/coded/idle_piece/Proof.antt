@@ -1,8 +1,6 @@
-use denote.Ref.{now}
-use mathlib.Core.Path.{ap}
+use Rattle.turn_runs.specs.Prelude.{now, ap, needs}
 use Rattle.turns.specs.declared.progress.Progress.{Progress}
 use Rattle.turn_runs.proofs.ProgressLaws.{walk-idle, coded-most}
-use borrow.Author.Needs.{needs}
 use Rattle.turn_runs.proofs.coded.idle_piece.Statement.{statement}
 use Rattle.turn_runs.proofs.coded.idle_piece.Tie as tie
 

@@ -1,7 +1,5 @@
-use native.Mathlib.Omega.{arith}
-use mathlib.Core.Path.{sym, _∙_}
+use Rattle.turn_runs.specs.Prelude.{arith, sym, _∙_, needs}
 use Rattle.turn_runs.specs.Walk.{none}
-use borrow.Author.Needs.{needs}
 use Rattle.turn_runs.proofs.coded.names_piece.Statement.{statement}
 use Rattle.turn_runs.proofs.coded.names_piece.Tie as tie
 

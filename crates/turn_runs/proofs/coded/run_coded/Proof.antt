@@ -1,9 +1,6 @@
-use denote.Ref.{now}
-use native.Mathlib.Omega.{arith}
-use mathlib.Core.Path.{ap}
+use Rattle.turn_runs.specs.Prelude.{now, arith, ap, needs}
 use Rattle.turns.specs.declared.progress.Progress.{Progress}
 use Rattle.turn_runs.proofs.ProgressLaws.{walk-then, walk-removed, removed-once}
-use borrow.Author.Needs.{needs}
 use Rattle.turn_runs.proofs.coded.run_coded.Statement.{statement}
 use Rattle.turn_runs.proofs.coded.run_coded.Tie as tie
 

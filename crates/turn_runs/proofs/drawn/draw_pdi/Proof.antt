@@ -1,9 +1,6 @@
 use Rattle.drawing_runs.specs.Run.{none}
-use native.Mathlib.Omega.{arith}
-use mathlib.Core.Path.{ap}
-use mathlib.Core.List.{[]}
+use Rattle.turn_runs.specs.Prelude.{arith, ap, [], needs}
 use Rattle.turn_runs.proofs.ProgressLaws.{run-still, pen-rests}
-use borrow.Author.Needs.{needs}
 use Rattle.turn_runs.proofs.drawn.draw_pdi.Statement.{statement}
 use Rattle.turn_runs.proofs.drawn.draw_pdi.Tie as tie
 

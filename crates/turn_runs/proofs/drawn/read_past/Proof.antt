@@ -1,6 +1,5 @@
-use native.Mathlib.Omega.{arith}
+use Rattle.turn_runs.specs.Prelude.{arith, needs}
 use Rattle.turn_runs.proofs.ProgressLaws.{past-piece, past-body, depth-body}
-use borrow.Author.Needs.{needs}
 use Rattle.turn_runs.proofs.drawn.read_past.Statement.{statement}
 use Rattle.turn_runs.proofs.drawn.read_past.Tie as tie
 

@@ -1,13 +1,6 @@
-use denote.Ref.{now}
-use native.Mathlib.Omega.{arith}
-use mathlib.Core.Path.{refl, ap, _∙_}
-use mathlib.Core.List.{List, []}
-use Prim.Native.Nat.{ℕ}
-use lib.ListN.{length}
-use borrow.Author.Tests.{not-false}
+use Rattle.turn_runs.specs.Prelude.{now, arith, refl, ap, _∙_, List, [], ℕ, length, not-false, needs}
 use Rattle.drawing_runs.specs.declared.Ran.{Ran}
 use Rattle.turn_runs.proofs.ProgressLaws.{walk-run, run-still, run-most, none-walk, none-most, past-none}
-use borrow.Author.Needs.{needs}
 use Rattle.turn_runs.proofs.drawn.run_drawn.Statement.{statement}
 use Rattle.turn_runs.proofs.drawn.run_drawn.Tie as tie
 

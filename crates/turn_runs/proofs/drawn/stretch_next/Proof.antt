@@ -1,6 +1,5 @@
-use native.Mathlib.Omega.{arith}
+use Rattle.turn_runs.specs.Prelude.{arith, needs}
 use Rattle.turn_runs.proofs.ProgressLaws.{lies-piece, lies-body}
-use borrow.Author.Needs.{needs}
 use Rattle.turn_runs.proofs.drawn.stretch_next.Statement.{statement}
 use Rattle.turn_runs.proofs.drawn.stretch_next.Tie as tie
 

@@ -1,12 +1,8 @@
-use denote.Ref.{now}
-use native.Mathlib.Omega.{arith}
-use mathlib.Core.Path.{refl, ap}
-use mathlib.Core.List.{[]}
+use Rattle.turn_runs.specs.Prelude.{now, arith, refl, ap, [], needs}
 use Rattle.turns.specs.declared.progress.Progress.{Progress}
 use Rattle.figures.specs.Carried.{drawingOf}
 use Rattle.rules.proofs.Steps.{valid-store, valid-depth}
 use Rattle.turn_runs.proofs.ProgressLaws.{walk-then, walk-stands, walk-steps, valid-domain, valid-command}
-use borrow.Author.Needs.{needs}
 use Rattle.turn_runs.proofs.run.run.Statement.{statement}
 use Rattle.turn_runs.proofs.run.run.Tie as tie
 

@@ -1,8 +1,5 @@
-use native.Mathlib.Omega.{arith}
-use mathlib.Core.Path.{sym, ap}
-use Prim.Native.Nat.{ℕ, _+_}
+use Rattle.turns.specs.Prelude.{arith, sym, ap, ℕ, _+_, needs}
 use Rattle.turns.proofs.ProgressLaws.{placed-piece, placed-body}
-use borrow.Author.Needs.{needs}
 use Rattle.turns.proofs.progress.after_run.Statement.{statement}
 use Rattle.turns.proofs.progress.after_run.Tie as tie
 

@@ -1,5 +1,4 @@
-use mathlib.Core.Path.{refl}
-use borrow.Author.Needs.{needs}
+use Rattle.turns.specs.Prelude.{refl, needs}
 use Rattle.turns.proofs.progress.counted.Statement.{statement}
 use Rattle.turns.proofs.progress.counted.Tie as tie
 

@@ -1,5 +1,4 @@
-use denote.Ref.{now}
-use borrow.Author.Needs.{needs}
+use Rattle.turns.specs.Prelude.{now, needs}
 use Rattle.turns.proofs.step.ask.Statement.{statement}
 use Rattle.turns.proofs.step.ask.Tie as tie
 

@@ -1,7 +1,6 @@
 use Rattle.coding.specs.View.{setsAfter}
 use Rattle.turns.proofs.StepLaws.{ends-due, call-deep, call-goes}
-use denote.Ref.{now}
-use borrow.Author.Needs.{needs}
+use Rattle.turns.specs.Prelude.{now, needs}
 use Rattle.turns.proofs.step.call.Statement.{statement}
 use Rattle.turns.proofs.step.call.Tie as tie
 

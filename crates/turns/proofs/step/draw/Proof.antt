@@ -1,7 +1,6 @@
 use Rattle.turns.proofs.StepLaws.{on-refused, on-drawn}
 use Rattle.bodies.specs.Stack.{bodiesOf}
-use denote.Ref.{now}
-use borrow.Author.Needs.{needs}
+use Rattle.turns.specs.Prelude.{now, needs}
 use Rattle.turns.proofs.step.draw.Statement.{statement}
 use Rattle.turns.proofs.step.draw.Tie as tie
 

@@ -2,9 +2,7 @@ use Rattle.turns.proofs.StepLaws.{ends-due, byte-inside, byte-refused, 
 use Rattle.turns.specs.View.{leftOf}
 use Rattle.coding.proofs.EffectLaws.{call-name}
 use Rattle.coding.specs.View.{codingOf}
-use denote.Ref.{now}
-use mathlib.Core.Path.{refl, sym, _∙_}
-use borrow.Author.Needs.{needs}
+use Rattle.turns.specs.Prelude.{now, refl, sym, _∙_, needs}
 use Rattle.turns.proofs.step.interpret.Statement.{statement}
 use Rattle.turns.proofs.step.interpret.Tie as tie
 

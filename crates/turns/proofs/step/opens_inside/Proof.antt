@@ -1,6 +1,5 @@
 use Rattle.turns.proofs.StepLaws.{inside-none, inside-some}
-use mathlib.Core.Path.{sym, _∙_}
-use borrow.Author.Needs.{needs}
+use Rattle.turns.specs.Prelude.{sym, _∙_, needs}
 use Rattle.turns.proofs.step.opens_inside.Statement.{statement}
 use Rattle.turns.proofs.step.opens_inside.Tie as tie
 

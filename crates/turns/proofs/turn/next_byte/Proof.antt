@@ -1,7 +1,5 @@
 use Rattle.turns.proofs.TurnLaws.{next-of-piece, next-of-body}
-use denote.Ref.{now}
-use mathlib.Core.Path.{_∙_}
-use borrow.Author.Needs.{needs}
+use Rattle.turns.specs.Prelude.{now, _∙_, needs}
 use Rattle.turns.proofs.turn.next_byte.Statement.{statement}
 use Rattle.turns.proofs.turn.next_byte.Tie as tie
 

@@ -1,7 +1,5 @@
 use Rattle.turns.proofs.TurnLaws.{left-of-piece, left-of-body}
-use borrow.Author.Tests.{ne-eqb}
-use denote.Ref.{now}
-use mathlib.Core.Path.{_∙_}
+use Rattle.turns.specs.Prelude.{ne-eqb, now, _∙_}
 use Rattle.turns.proofs.turn.nothing_left.Statement.{statement}
 use Rattle.turns.proofs.turn.nothing_left.Tie as tie
 

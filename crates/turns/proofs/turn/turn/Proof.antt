@@ -1,9 +1,6 @@
 use Rattle.turns.proofs.StepLaws.{ends-due, ends-room, some-room}
 use Rattle.turns.proofs.TurnLaws.{some-of-piece, turn-done, turn-full, turn-spent, turn-bad, turn-byte}
-use denote.Ref.{now}
-use native.Mathlib.Omega.{arith}
-use mathlib.Core.Path.{sym, _∙_}
-use borrow.Author.Needs.{needs}
+use Rattle.turns.specs.Prelude.{now, arith, sym, _∙_, needs}
 use Rattle.turns.proofs.turn.turn.Statement.{statement}
 use Rattle.turns.proofs.turn.turn.Tie as tie
 

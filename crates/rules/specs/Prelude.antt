@@ -1,0 +1,13 @@
+-- What the files of this crate use of the libraries, under one name
+pub use mathlib.Core.Path.{_≡_, refl, sym, ap, _∙_, subst, ap₂}
+pub use mathlib.Core.Bool.{Bool, true, false, not, _||_, _&&_, true≢false, false≢true, and-false}
+pub use mathlib.Core.List.{List, [], _∷_, _++_, map, append-assoc, append-nil}
+pub use Prim.Native.Nat.{ℕ, suc, _+_, _*_, _-_, zero, _/_, _%_, _^_, _<_, _≤_, zero-le}
+pub use native.Mathlib.Nat.{le-refl, le-trans, zero-add, add-zero, suc-add, sub-zero, add-assoc, le-of-suc-le-suc, not-suc-le-zero}
+pub use native.Mathlib.Omega.{arith}
+pub use lib.ListN.{getD, set, replicate, length, drop, take, length-append, length-set, length-take, drop-of-length-le, List·getD-eq-default, length-drop}
+pub use lib.Seq.{take-append-seam, drop-append-le, drop-drop, drop-append-add, drop-append-seam}
+pub use lib.Dec.{ltb, eqb, leb}
+pub use lib.IntN.{ℤ, pos, negℤ, _+ℤ_, _-ℤ_}
+pub use lib.Signed.{leZ, ltZ}
+pub use borrow.Author.Tests.{le-leb, lt-leb, leb-true, eqb-true, not-false, ltb-true, ltb-false}
