@@ -56,6 +56,54 @@ stands-any budget x cells places firsts map st h m =
     let v = h .sound in
     record { sound = record { size = v .size; running = v .running; bodies = v .bodies; waiting = v .waiting; drawing = v .drawing }; on = h .on; within = h .within }
 
+-- A turn from what is kept
+module _ (w₀ : State) (budget : ℕ) (piece out₀ : List ℕ) (p : Progress) (cells places firsts : List ℕ) (d : Drawing) (st out : List ℕ) (i : Kept w₀ piece out₀ (stateAt budget p cells places firsts d st) (p .at) (p .written) out)
+    (r : Turned) (cells₁ places₁ firsts₁ st₁ : List ℕ)
+    (e : (c : Drawing) (l : List ℕ) → leftOf budget p r cells₁ places₁ firsts₁ c st₁ l ≡ leaves (turn (ltb (length out - p .written) roomForStep) (budget - p .steps) (stateAt budget p cells places firsts c st) (drop (p .at) piece)) (p .at) (p .written) l)
+  where
+    abbrev before : State
+    before = stateAt budget p cells places firsts d st
+
+    next : (x : Left) → x ≡ leftOf budget p r cells₁ places₁ firsts₁ d st₁ out → Next w₀ piece out₀ before (p .at) (p .written) out (x .course) x
+    next x f = kept-next w₀ piece out₀ before (p .at) (p .written) out x i (f ∙ e d out)
+
+    pub loop-on : r .course ≡ GoesOn
+        → (Kept w₀ piece out₀ (stateAt budget (r .progress) cells₁ places₁ firsts₁ d st₁) (r .progress .at) (r .progress .written) out)
+        × (r .progress .steps ≡ 1 + p .steps)
+        × (p .steps < budget)
+    loop-on g = next (record { course = GoesOn; state = stateAt budget (r .progress) cells₁ places₁ firsts₁ d st₁; consumed = r .progress .at; written = r .progress .written; output = out }) (rw g)
+
+    pub loop-ends : (a : Answer) → r .course ≡ Ends a
+        → record { answer = a; state = answered a (stateAt budget p cells₁ places₁ firsts₁ d st₁); consumed = p .at; written = p .written; output = out } ≡ handed (wholeReading w₀ piece out₀) out₀
+    loop-ends a g = next (record { course = Ends a; state = answered a (stateAt budget p cells₁ places₁ firsts₁ d st₁); consumed = p .at; written = p .written; output = out }) (rw g)
+
+    -- The turn's action drawn
+    module _ (a : Action) (g : r .course ≡ Draws a) (u : DrawDue p r) (m : Drawn) (map₁ out₁ : List ℕ) (f : carriedOf m map₁ out₁ ≡ carry (act a d) d (p .written) out)
+        (cells₂ places₂ : List ℕ) (h : bodiesOf (p .depth) cells₂ places₂ ≡ readOnIf (m .«too_many_vertices») (p .depth) (r .cursor) (bodiesOf (p .depth) cells₁ places₁)) where
+      due : DrawDueBy (Draws a) p (r .progress)
+      due = drawn-due r p a g u
+
+      -- The step keeps the depth
+      read : bodiesOf (r .progress .depth) cells₂ places₂ ≡ readOnIf (m .«too_many_vertices») (r .progress .depth) (r .cursor) (bodiesOf (r .progress .depth) cells₁ places₁)
+      read = rw (ap (λ (z : Progress). z .depth) (due .0)) h
+
+      pub loop-draws : m .«too_many_vertices» ≡ false → (x : Reached) → x ≡ drawnTo m (r .progress)
+          → (Kept w₀ piece out₀ (stateAt budget (x .progress) cells₂ places₂ firsts₁ (drawingOf (x .pen) (x .command) (x .look) map₁) st₁) (x .progress .at) (x .progress .written) out₁)
+          × (x .progress .steps ≡ 1 + p .steps)
+          × (p .steps < budget)
+      loop-draws n x k =
+          rw k
+          (next (record { course = GoesOn; state = stateAt budget (writtenTo (m .at) (r .progress)) cells₂ places₂ firsts₁ (drawingOf (m .pen) (m .command) (m .look) map₁) st₁; consumed = r .progress .at; written = m .at; output = out₁ })
+          (rw g (draw-goes budget p (r .progress) (due .0) cells₁ places₁ firsts₁ d st₁ out (r .cursor) a m map₁ out₁ f cells₂ places₂ read n)))
+
+      pub loop-refused : m .«too_many_vertices» ≡ true → (pen : Pen) (command : Command) (look : Look) (map : List ℕ) → d ≡ drawingOf pen command look map
+          → record { answer = Refused TooManyVertices; state = answered (Refused TooManyVertices) (stateAt budget p cells₂ places₂ firsts₁ (drawingOf pen command look map₁) st₁); consumed = p .at; written = p .written; output = out₁ }
+          ≡ handed (wholeReading w₀ piece out₀) out₀
+      loop-refused n pen command look map k =
+          next (record { course = Ends (Refused TooManyVertices); state = answered (Refused TooManyVertices) (stateAt budget p cells₂ places₂ firsts₁ (drawingOf pen command look map₁) st₁); consumed = p .at; written = p .written; output = out₁ })
+          (rw g (draw-refused budget p (r .progress) (due .0) cells₁ places₁ firsts₁ d st₁ out (r .cursor) a m map₁ out₁ f cells₂ places₂ read pen command look map k n))
+
+-- From a session that is lent, and to what is handed over
 module _ (s : Session) (st₀ piece out₀ : List ℕ) (valid : Valid (stateLent s st₀)) (x₀ : Reached) (e₀ : x₀ ≡ startOf s) where
   -- The state that is lent, in parts
   abbrev first : State
@@ -76,7 +124,7 @@ module _ (s : Session) (st₀ piece out₀ : List ℕ) (valid : Valid (stateLent
       (kept-first first piece out₀ (subst Valid (sym first-lent) valid))
 
   -- A reading that has ended hands the whole over
-  hands-over : (a : Answer) (p : Progress) (cells places firsts : List ℕ) (d : Drawing) (st out : List ℕ)
+  pub hands-over : (a : Answer) (p : Progress) (cells places firsts : List ℕ) (d : Drawing) (st out : List ℕ)
       → record { answer = a; state = answered a (stateAt (s .budget) p cells places firsts d st); consumed = p .at; written = p .written; output = out } ≡ handed (wholeReading first piece out₀) out₀
       → (r : Fed) → r ≡ fedOf a p (sessionAfter a (s .budget) p cells places firsts d)
       → handedOf r st out ≡ handed (reading (Room (length out₀)) (s .budget - s .steps) (stateLent s st₀) piece) out₀
@@ -85,53 +133,3 @@ module _ (s : Session) (st₀ piece out₀ : List ℕ) (valid : Valid (stateLent
       (ap (λ (w : State). record { answer = a; state = w; consumed = p .at; written = p .written; output = out }) (ended-state a (s .budget) p cells places firsts d st)
       ∙ h
       ∙ ap (λ (w : State). handed (wholeReading w piece out₀) out₀) first-lent)
-
-  module _ (p : Progress) (cells places firsts : List ℕ) (d : Drawing) (st out : List ℕ) (i : Kept first piece out₀ (stateAt (s .budget) p cells places firsts d st) (p .at) (p .written) out)
-      (r : Turned) (cells₁ places₁ firsts₁ st₁ : List ℕ)
-      (e : (c : Drawing) (l : List ℕ) → leftOf (s .budget) p r cells₁ places₁ firsts₁ c st₁ l ≡ leaves (turn (ltb (length out - p .written) roomForStep) (s .budget - p .steps) (stateAt (s .budget) p cells places firsts c st) (drop (p .at) piece)) (p .at) (p .written) l)
-    where
-      abbrev before : State
-      before = stateAt (s .budget) p cells places firsts d st
-
-      next : (x : Left) → x ≡ leftOf (s .budget) p r cells₁ places₁ firsts₁ d st₁ out → Next first piece out₀ before (p .at) (p .written) out (x .course) x
-      next x f = kept-next first piece out₀ before (p .at) (p .written) out x i (f ∙ e d out)
-
-      pub loop-on : r .course ≡ GoesOn
-          → (Kept first piece out₀ (stateAt (s .budget) (r .progress) cells₁ places₁ firsts₁ d st₁) (r .progress .at) (r .progress .written) out)
-          × (r .progress .steps ≡ 1 + p .steps)
-          × (p .steps < s .budget)
-      loop-on g = next (record { course = GoesOn; state = stateAt (s .budget) (r .progress) cells₁ places₁ firsts₁ d st₁; consumed = r .progress .at; written = r .progress .written; output = out }) (rw g)
-
-      pub loop-ends : (a : Answer) → r .course ≡ Ends a → (x : Fed) → x ≡ fedOf a p (sessionAfter a (s .budget) p cells₁ places₁ firsts₁ d)
-          → handedOf x st₁ out ≡ handed (reading (Room (length out₀)) (s .budget - s .steps) (stateLent s st₀) piece) out₀
-      loop-ends a g x f =
-          hands-over a p cells₁ places₁ firsts₁ d st₁ out
-          (next (record { course = Ends a; state = answered a (stateAt (s .budget) p cells₁ places₁ firsts₁ d st₁); consumed = p .at; written = p .written; output = out }) (rw g)) x f
-
-      -- The turn's action drawn
-      module _ (a : Action) (g : r .course ≡ Draws a) (u : DrawDue p r) (m : Drawn) (map₁ out₁ : List ℕ) (f : carriedOf m map₁ out₁ ≡ carry (act a d) d (p .written) out)
-          (cells₂ places₂ : List ℕ) (h : bodiesOf (p .depth) cells₂ places₂ ≡ readOnIf (m .«too_many_vertices») (p .depth) (r .cursor) (bodiesOf (p .depth) cells₁ places₁)) where
-        due : DrawDueBy (Draws a) p (r .progress)
-        due = drawn-due r p a g u
-
-        -- The step keeps the depth
-        read : bodiesOf (r .progress .depth) cells₂ places₂ ≡ readOnIf (m .«too_many_vertices») (r .progress .depth) (r .cursor) (bodiesOf (r .progress .depth) cells₁ places₁)
-        read = rw (ap (λ (z : Progress). z .depth) (due .0)) h
-
-        pub loop-draws : m .«too_many_vertices» ≡ false → (x : Reached) → x ≡ drawnTo m (r .progress)
-            → (Kept first piece out₀ (stateAt (s .budget) (x .progress) cells₂ places₂ firsts₁ (drawingOf (x .pen) (x .command) (x .look) map₁) st₁) (x .progress .at) (x .progress .written) out₁)
-            × (x .progress .steps ≡ 1 + p .steps)
-            × (p .steps < s .budget)
-        loop-draws n x k =
-            rw k
-            (next (record { course = GoesOn; state = stateAt (s .budget) (writtenTo (m .at) (r .progress)) cells₂ places₂ firsts₁ (drawingOf (m .pen) (m .command) (m .look) map₁) st₁; consumed = r .progress .at; written = m .at; output = out₁ })
-            (rw g (draw-goes (s .budget) p (r .progress) (due .0) cells₁ places₁ firsts₁ d st₁ out (r .cursor) a m map₁ out₁ f cells₂ places₂ read n)))
-
-        pub loop-refused : m .«too_many_vertices» ≡ true → (pen : Pen) (command : Command) (look : Look) (map : List ℕ) → d ≡ drawingOf pen command look map
-            → (x : Fed) → x ≡ fedOf (Refused TooManyVertices) p (sessionAfter (Refused TooManyVertices) (s .budget) p cells₂ places₂ firsts₁ (drawingOf pen command look map₁))
-            → handedOf x st₁ out₁ ≡ handed (reading (Room (length out₀)) (s .budget - s .steps) (stateLent s st₀) piece) out₀
-        loop-refused n pen command look map k x y =
-            hands-over (Refused TooManyVertices) p cells₂ places₂ firsts₁ (drawingOf pen command look map₁) st₁ out₁
-            (next (record { course = Ends (Refused TooManyVertices); state = answered (Refused TooManyVertices) (stateAt (s .budget) p cells₂ places₂ firsts₁ (drawingOf pen command look map₁) st₁); consumed = p .at; written = p .written; output = out₁ })
-            (rw g (draw-refused (s .budget) p (r .progress) (due .0) cells₁ places₁ firsts₁ d st₁ out (r .cursor) a m map₁ out₁ f cells₂ places₂ read pen command look map k n)))
-            x y

@@ -30,13 +30,10 @@ pub fn read(session: Session, store: &mut [u8], piece: &[u8], out: &mut [u8]) ->
         (now (out .entry)) ⌝ }
 {
     let budget = session.budget;
-    let bodies = session.bodies;
-    let coding = session.coding;
-    let drawing = session.drawing;
-    let mut cells = bodies.cells;
-    let mut places = bodies.places;
-    let mut firsts = coding.firsts;
-    let mut map = drawing.map;
+    let mut cells = session.bodies.cells;
+    let mut places = session.bodies.places;
+    let mut firsts = session.coding.firsts;
+    let mut map = session.drawing.map;
     let mut reached = start(session);
     loop {
         let taken = reached.progress.steps;
@@ -71,14 +68,11 @@ pub fn read(session: Session, store: &mut [u8], piece: &[u8], out: &mut [u8]) ->
             Course::Ends(answer) => {
                 return finish(answer, budget, reached, cells, places, firsts, map);
             }
-            Course::GoesOn => {
-                reached = with_progress(reached, next);
-            }
+            Course::GoesOn => reached = with_progress(reached, next),
             Course::Draws(action) => {
-                let cursor = turned.cursor;
                 let drawn = draw(
                     action,
-                    cursor,
+                    turned.cursor,
                     reached,
                     &mut cells,
                     &mut places,

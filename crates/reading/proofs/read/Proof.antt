@@ -4,7 +4,7 @@ use Rattle.turns.specs.declared.progress.Reached.{Reached}
 use Rattle.turns.specs.View.{stateAt}
 use Rattle.rules.proofs.Steps.{valid-store, valid-depth}
 use Rattle.turn_runs.proofs.ProgressLaws.{walk-steps}
-use Rattle.reading.proofs.ReadLaws.{loop-first, loop-on, loop-ends, loop-draws, loop-refused, drawn-room, stands-any}
+use Rattle.reading.proofs.ReadLaws.{loop-first, loop-on, loop-ends, loop-draws, loop-refused, hands-over, drawn-room, stands-any}
 use Rattle.reading.proofs.WalkLaws.{walk-keeps}
 use Rattle.reading.proofs.Whole.{Kept}
 use Rattle.reading.proofs.read.Statement.{statement}
@@ -22,186 +22,147 @@ abbrev μ-loop : tie.MeasureT-loop
 
 loop-holds : tie.Need-loop-holds Inv-loop μ-loop
 loop-holds c =
-    let args· = c .before .before .before .before .before .before .before .before .before .before .before .args in
-    let pre· = c .before .before .before .before .before .before .before .before .before .before .before .pre in
-    let start· = c .start in
-    loop-first (args· .session) (now (args· .store)) (now (args· .piece)) (now (args· .out)) pre· (start· .result) (start· .ensures)
+    let args· = c .before .before .before .before .before .before .before .before .args in
+    let pre· = c .before .before .before .before .before .before .before .before .pre in
+    loop-first (args· .session) (now (args· .store)) (now (args· .piece)) (now (args· .out)) pre· (c .start .result) (c .start .ensures)
 
 run-requires : tie.Need-run-requires Inv-loop μ-loop
 run-requires c κs =
-    let args· = c .before .before .before .before .before .before .before .before .before .before .before .before .before .before .before .before .before .args in
+    let args· = c .before .before .before .before .before .before .before .before .before .before .before .before .before .before .args in
     let loop· = c .before .before .before .before .before .loop in
     stands-any (args· .session .budget) (loop· .reached) (loop· .cells) (loop· .places) (loop· .firsts) (loop· .map) (loop· .store) (loop· .inv .stands)
 
 loop-less : tie.Need-loop-less Inv-loop μ-loop
 loop-less c =
-    let if1· = c .if1 in
     let run· = c .before .before .before .before .before .before .before .run in
-    omega (arith, if1· .taken, run· .ensures .1 .0)
+    omega (arith, c .if1 .taken, run· .ensures .1 .0)
 
 loop-again : tie.Need-loop-again Inv-loop μ-loop
 loop-again c =
-    let args· = c .before .before .before .before .before .before .before .before .before .before .before .before .before .before .before .before .before .before .before .before .before .before .before .before .before .args in
     let run· = c .before .before .before .before .before .before .before .run in
     let loop· = c .before .before .before .before .before .before .before .before .before .before .before .before .before .loop in
-    walk-keeps _ (now (args· .piece)) _ (run· .ensures .0 (loop· .map)) (loop· .inv)
+    walk-keeps _ _ _ (run· .ensures .0 (loop· .map)) (loop· .inv)
 
 sub-free : tie.Need-sub-free Inv-loop μ-loop
 sub-free c =
-    let args· = c .before .before .before .before .before .before .before .before .before .before .before .before .before .before .before .before .before .before .before .before .before .before .before .before .before .before .args in
     let run· = c .before .before .before .before .before .before .before .before .run in
     let loop· = c .before .before .before .before .before .before .before .before .before .before .before .before .before .before .loop in
-    let k = walk-keeps _ (now (args· .piece)) _ (run· .ensures .0 (loop· .map)) (loop· .inv) in
-    k .stands .within
+    (walk-keeps _ _ _ (run· .ensures .0 (loop· .map)) (loop· .inv)) .stands .within
 
 turn-requires : tie.Need-turn-requires Inv-loop μ-loop
 turn-requires c κs =
-    let args· = c .before .before .before .before .before .before .before .before .before .before .before .before .before .before .before .before .before .before .before .before .before .before .before .before .before .before .before .before .before .before .args in
     let run· = c .before .before .before .before .before .before .before .before .before .before .before .before .run in
     let loop· = c .before .before .before .before .before .before .before .before .before .before .before .before .before .before .before .before .before .before .loop in
     let if1· = c .before .before .before .before .before .if1 in
-    let k = walk-keeps _ (now (args· .piece)) _ (run· .ensures .0 (loop· .map)) (loop· .inv) in
+    let k = walk-keeps _ _ _ (run· .ensures .0 (loop· .map)) (loop· .inv) in
     let v = k .stands .sound in
     (valid-store v, valid-depth v, v .waiting, k .stands .on, run· .ensures .1 .1 (if1· .left))
 
 same-length : tie.Need-same-length Inv-loop μ-loop
 same-length c =
-    let args· = c .before .before .before .before .before .before .before .before .before .before .before .before .before .before .before .before .before .before .before .before .before .before .before .before .before .before .before .before .before .before .before .before .before .before .before .before .before .before .args in
     let run· = c .before .before .before .before .before .before .before .before .before .before .before .before .before .before .before .before .before .before .before .before .run in
     let loop· = c .before .before .before .before .before .before .before .before .before .before .before .before .before .before .before .before .before .before .before .before .before .before .before .before .before .before .loop in
     let turn· = c .before .before .before .before .before .before .before .turn in
-    let pre· = c .before .before .before .before .before .before .before .before .before .before .before .before .before .before .before .before .before .before .before .before .before .before .before .before .before .before .before .before .before .before .before .before .before .before .before .before .before .before .pre in
-    let k = walk-keeps _ (now (args· .piece)) _ (run· .ensures .0 (loop· .map)) (loop· .inv) in
-    turn· .kept .1 .1 .1 .1 .1 .1 .0 ∙ valid-store (k .stands .sound) ∙ sym (valid-store pre·)
+    let pre· = c .before .before .before .before .before .before .before .before .before .before .before .before .before .before .before .before .before .before .before .before .before .before .before .before .before .before .before .before .before .before .before .before .before .before .before .pre in
+    turn· .kept .1 .1 .1 .1 .1 .1 .0 ∙ valid-store ((walk-keeps _ _ _ (run· .ensures .0 (loop· .map)) (loop· .inv)) .stands .sound) ∙ sym (valid-store pre·)
 
 same-length-2 : tie.Need-same-length-2 Inv-loop μ-loop
 same-length-2 c =
-    let args· = c .before .before .before .before .before .before .before .before .before .before .before .before .before .before .before .before .before .before .before .before .before .before .before .before .before .before .before .before .before .before .before .before .before .before .before .before .before .before .args in
     let run· = c .before .before .before .before .before .before .before .before .before .before .before .before .before .before .before .before .before .before .before .before .run in
     let loop· = c .before .before .before .before .before .before .before .before .before .before .before .before .before .before .before .before .before .before .before .before .before .before .before .before .before .before .loop in
-    let k = walk-keeps _ (now (args· .piece)) _ (run· .ensures .0 (loop· .map)) (loop· .inv) in
-    k .long
+    (walk-keeps _ _ _ (run· .ensures .0 (loop· .map)) (loop· .inv)) .long
 
 returns : tie.Need-returns Inv-loop μ-loop
 returns c =
-    let args· = c .before .before .before .before .before .before .before .before .before .before .before .before .before .before .before .before .before .before .before .before .before .before .before .before .before .before .before .before .before .before .before .before .before .before .before .before .before .before .args in
     let run· = c .before .before .before .before .before .before .before .before .before .before .before .before .before .before .before .before .before .before .before .before .run in
     let loop· = c .before .before .before .before .before .before .before .before .before .before .before .before .before .before .before .before .before .before .before .before .before .before .before .before .before .before .loop in
-    let pre· = c .before .before .before .before .before .before .before .before .before .before .before .before .before .before .before .before .before .before .before .before .before .before .before .before .before .before .before .before .before .before .before .before .before .before .before .before .before .before .pre in
+    let pre· = c .before .before .before .before .before .before .before .before .before .before .before .before .before .before .before .before .before .before .before .before .before .before .before .before .before .before .before .before .before .before .before .before .before .before .before .pre in
     let start· = c .before .before .before .before .before .before .before .before .before .before .before .before .before .before .before .before .before .before .before .before .before .before .before .before .before .before .before .start in
     let turn· = c .before .before .before .before .before .before .before .turn in
     let course· = c .before .before .course in
-    let finish· = c .finish in
-    let k = walk-keeps _ (now (args· .piece)) _ (run· .ensures .0 (loop· .map)) (loop· .inv) in
-    loop-ends (args· .session) (now (args· .store)) (now (args· .piece)) (now (args· .out)) pre· (start· .result) (start· .ensures) (run· .result .progress) (run· .last .1 .1 .0) (run· .last .1 .1 .1 .0) (run· .last .1 .1 .1 .1 .0) (drawingOf (run· .result .pen) (run· .result .command) (run· .result .look) (loop· .map)) (run· .last .1 .1 .1 .1 .1 .0) (run· .last .1 .1 .1 .1 .1 .1 .1 .0) k (turn· .result) (turn· .last .1 .1 .1 .0) (turn· .last .1 .1 .1 .1 .0) (turn· .last .1 .1 .1 .1 .1 .0) (turn· .last .1 .1 .1 .1 .1 .1 .0) (turn· .ensures .0) _ (course· .given .1) (finish· .result) (finish· .ensures)
+    let args· = c .before .before .before .before .before .before .before .before .before .before .before .before .before .before .before .before .before .before .before .before .before .before .before .before .before .before .before .before .before .before .before .before .before .before .before .args in
+    hands-over _ _ (now (args· .piece)) (now (args· .out)) pre· _ (start· .ensures) _ _ _ _ _ _ _ _ (loop-ends _ _ _ _ _ _ _ _ (drawingOf (run· .result .pen) (run· .result .command) (run· .result .look) (loop· .map)) _ _ (walk-keeps _ _ _ (run· .ensures .0 (loop· .map)) (loop· .inv)) (turn· .result) _ _ _ _ (turn· .ensures .0) _ (course· .given .1)) _ (c .finish .ensures)
 
 loop-less-2 : tie.Need-loop-less-2 Inv-loop μ-loop
 loop-less-2 c =
-    let args· = c .before .before .before .before .before .before .before .before .before .before .before .before .before .before .before .before .before .before .before .before .before .before .before .before .before .before .before .before .before .before .before .before .before .before .before .before .before .args in
     let run· = c .before .before .before .before .before .before .before .before .before .before .before .before .before .before .before .before .before .before .before .run in
     let loop· = c .before .before .before .before .before .before .before .before .before .before .before .before .before .before .before .before .before .before .before .before .before .before .before .before .before .loop in
-    let pre· = c .before .before .before .before .before .before .before .before .before .before .before .before .before .before .before .before .before .before .before .before .before .before .before .before .before .before .before .before .before .before .before .before .before .before .before .before .before .pre in
-    let start· = c .before .before .before .before .before .before .before .before .before .before .before .before .before .before .before .before .before .before .before .before .before .before .before .before .before .before .start in
     let turn· = c .before .before .before .before .before .before .turn in
     let enum-told· = c .before .enum-told in
-    let with-progress· = c .with-progress in
-    let k = walk-keeps _ (now (args· .piece)) _ (run· .ensures .0 (loop· .map)) (loop· .inv) in
-    let on = loop-on (args· .session) (now (args· .store)) (now (args· .piece)) (now (args· .out)) pre· (start· .result) (start· .ensures) (run· .result .progress) (run· .last .1 .1 .0) (run· .last .1 .1 .1 .0) (run· .last .1 .1 .1 .1 .0) (drawingOf (run· .result .pen) (run· .result .command) (run· .result .look) (loop· .map)) (run· .last .1 .1 .1 .1 .1 .0) (run· .last .1 .1 .1 .1 .1 .1 .1 .0) k (turn· .result) (turn· .last .1 .1 .1 .0) (turn· .last .1 .1 .1 .1 .0) (turn· .last .1 .1 .1 .1 .1 .0) (turn· .last .1 .1 .1 .1 .1 .1 .0) (turn· .ensures .0) (enum-told· .given .1) in
-    omega (arith, on .1, on .2, walk-steps (run· .ensures .0 (loop· .map)) (loop· .inv .stands), ap (λ (x : Reached). x .progress .steps) (with-progress· .ensures))
+    let on = loop-on _ _ _ _ _ _ _ _ (drawingOf (run· .result .pen) (run· .result .command) (run· .result .look) (loop· .map)) _ _ (walk-keeps _ _ _ (run· .ensures .0 (loop· .map)) (loop· .inv)) (turn· .result) _ _ _ _ (turn· .ensures .0) (enum-told· .given .1) in
+    omega (arith, on .1, on .2, walk-steps (run· .ensures .0 (loop· .map)) (loop· .inv .stands), ap (λ (x : Reached). x .progress .steps) (c .with-progress .ensures))
 
 loop-again-2 : tie.Need-loop-again-2 Inv-loop μ-loop
 loop-again-2 c =
-    let args· = c .before .before .before .before .before .before .before .before .before .before .before .before .before .before .before .before .before .before .before .before .before .before .before .before .before .before .before .before .before .before .before .before .before .before .before .before .before .args in
     let run· = c .before .before .before .before .before .before .before .before .before .before .before .before .before .before .before .before .before .before .before .run in
     let loop· = c .before .before .before .before .before .before .before .before .before .before .before .before .before .before .before .before .before .before .before .before .before .before .before .before .before .loop in
-    let with-progress· = c .with-progress in
-    let pre· = c .before .before .before .before .before .before .before .before .before .before .before .before .before .before .before .before .before .before .before .before .before .before .before .before .before .before .before .before .before .before .before .before .before .before .before .before .before .pre in
-    let start· = c .before .before .before .before .before .before .before .before .before .before .before .before .before .before .before .before .before .before .before .before .before .before .before .before .before .before .start in
     let turn· = c .before .before .before .before .before .before .turn in
     let enum-told· = c .before .enum-told in
-    let k = walk-keeps _ (now (args· .piece)) _ (run· .ensures .0 (loop· .map)) (loop· .inv) in
-    rw (with-progress· .ensures)
-    (loop-on (args· .session) (now (args· .store)) (now (args· .piece)) (now (args· .out)) pre· (start· .result) (start· .ensures) (run· .result .progress) (run· .last .1 .1 .0) (run· .last .1 .1 .1 .0) (run· .last .1 .1 .1 .1 .0) (drawingOf (run· .result .pen) (run· .result .command) (run· .result .look) (loop· .map)) (run· .last .1 .1 .1 .1 .1 .0) (run· .last .1 .1 .1 .1 .1 .1 .1 .0) k (turn· .result) (turn· .last .1 .1 .1 .0) (turn· .last .1 .1 .1 .1 .0) (turn· .last .1 .1 .1 .1 .1 .0) (turn· .last .1 .1 .1 .1 .1 .1 .0) (turn· .ensures .0) (enum-told· .given .1) .0)
+    rw (c .with-progress .ensures)
+    (loop-on _ _ _ _ _ _ _ _ (drawingOf (run· .result .pen) (run· .result .command) (run· .result .look) (loop· .map)) _ _ (walk-keeps _ _ _ (run· .ensures .0 (loop· .map)) (loop· .inv)) (turn· .result) _ _ _ _ (turn· .ensures .0) (enum-told· .given .1) .0)
 
 draw-requires : tie.Need-draw-requires Inv-loop μ-loop
 draw-requires c κs =
-    let args· = c .before .before .before .before .before .before .before .before .before .before .before .before .before .before .before .before .before .before .before .before .before .before .before .before .before .before .before .before .before .before .before .before .before .before .before .before .before .before .before .before .before .before .args in
-    let run· = c .before .before .before .before .before .before .before .before .before .before .before .before .before .before .before .before .before .before .before .before .before .before .before .before .run in
-    let loop· = c .before .before .before .before .before .before .before .before .before .before .before .before .before .before .before .before .before .before .before .before .before .before .before .before .before .before .before .before .before .before .loop in
-    let turn· = c .before .before .before .before .before .before .before .before .before .before .before .turn in
-    let course2· = c .before .before .before .before .before .before .course2 in
-    let k = walk-keeps _ (now (args· .piece)) _ (run· .ensures .0 (loop· .map)) (loop· .inv) in
+    let run· = c .before .before .before .before .before .before .before .before .before .before .before .before .before .before .before .before .before .before .before .before .before .before .before .run in
+    let loop· = c .before .before .before .before .before .before .before .before .before .before .before .before .before .before .before .before .before .before .before .before .before .before .before .before .before .before .before .before .before .loop in
+    let turn· = c .before .before .before .before .before .before .before .before .before .before .turn in
+    let course2· = c .before .before .before .before .before .course2 in
+    let k = walk-keeps _ _ _ (run· .ensures .0 (loop· .map)) (loop· .inv) in
     let v = k .stands .sound in
     let free = drawn-room (turn· .result) _ _ (course2· .given .1) (turn· .ensures .1 .1) in
     (valid-depth v, v .drawing, omega (arith, free, k .stands .within))
 
 same-length-3 : tie.Need-same-length-3 Inv-loop μ-loop
 same-length-3 c =
-    let args· = c .before .before .before .before .before .before .before .before .before .before .before .before .before .before .before .before .before .before .before .before .before .before .before .before .before .before .before .before .before .before .before .before .before .before .before .before .before .before .before .before .before .before .before .before .before .before .before .args in
-    let run· = c .before .before .before .before .before .before .before .before .before .before .before .before .before .before .before .before .before .before .before .before .before .before .before .before .before .before .before .before .before .run in
-    let loop· = c .before .before .before .before .before .before .before .before .before .before .before .before .before .before .before .before .before .before .before .before .before .before .before .before .before .before .before .before .before .before .before .before .before .before .before .loop in
-    let turn· = c .before .before .before .before .before .before .before .before .before .before .before .before .before .before .before .before .turn in
-    let pre· = c .before .before .before .before .before .before .before .before .before .before .before .before .before .before .before .before .before .before .before .before .before .before .before .before .before .before .before .before .before .before .before .before .before .before .before .before .before .before .before .before .before .before .before .before .before .before .before .pre in
-    let k = walk-keeps _ (now (args· .piece)) _ (run· .ensures .0 (loop· .map)) (loop· .inv) in
-    turn· .kept .1 .1 .1 .1 .1 .1 .0 ∙ valid-store (k .stands .sound) ∙ sym (valid-store pre·)
+    let run· = c .before .before .before .before .before .before .before .before .before .before .before .before .before .before .before .before .before .before .before .before .before .before .before .before .before .before .before .before .run in
+    let loop· = c .before .before .before .before .before .before .before .before .before .before .before .before .before .before .before .before .before .before .before .before .before .before .before .before .before .before .before .before .before .before .before .before .before .before .loop in
+    let turn· = c .before .before .before .before .before .before .before .before .before .before .before .before .before .before .before .turn in
+    let pre· = c .before .before .before .before .before .before .before .before .before .before .before .before .before .before .before .before .before .before .before .before .before .before .before .before .before .before .before .before .before .before .before .before .before .before .before .before .before .before .before .before .before .before .before .pre in
+    turn· .kept .1 .1 .1 .1 .1 .1 .0 ∙ valid-store ((walk-keeps _ _ _ (run· .ensures .0 (loop· .map)) (loop· .inv)) .stands .sound) ∙ sym (valid-store pre·)
 
 same-length-4 : tie.Need-same-length-4 Inv-loop μ-loop
 same-length-4 c =
-    let args· = c .before .before .before .before .before .before .before .before .before .before .before .before .before .before .before .before .before .before .before .before .before .before .before .before .before .before .before .before .before .before .before .before .before .before .before .before .before .before .before .before .before .before .before .before .before .before .before .args in
-    let run· = c .before .before .before .before .before .before .before .before .before .before .before .before .before .before .before .before .before .before .before .before .before .before .before .before .before .before .before .before .before .run in
-    let loop· = c .before .before .before .before .before .before .before .before .before .before .before .before .before .before .before .before .before .before .before .before .before .before .before .before .before .before .before .before .before .before .before .before .before .before .before .loop in
+    let run· = c .before .before .before .before .before .before .before .before .before .before .before .before .before .before .before .before .before .before .before .before .before .before .before .before .before .before .before .before .run in
+    let loop· = c .before .before .before .before .before .before .before .before .before .before .before .before .before .before .before .before .before .before .before .before .before .before .before .before .before .before .before .before .before .before .before .before .before .before .loop in
     let draw· = c .before .before .before .before .draw in
-    let k = walk-keeps _ (now (args· .piece)) _ (run· .ensures .0 (loop· .map)) (loop· .inv) in
-    draw· .kept .1 .1 .1 .1 .1 .1 .0 ∙ k .long
+    draw· .kept .1 .1 .1 .1 .1 .1 .0 ∙ (walk-keeps _ _ _ (run· .ensures .0 (loop· .map)) (loop· .inv)) .long
 
 returns-2 : tie.Need-returns-2 Inv-loop μ-loop
 returns-2 c =
-    let args· = c .before .before .before .before .before .before .before .before .before .before .before .before .before .before .before .before .before .before .before .before .before .before .before .before .before .before .before .before .before .before .before .before .before .before .before .before .before .before .before .before .before .before .before .before .before .before .before .args in
-    let run· = c .before .before .before .before .before .before .before .before .before .before .before .before .before .before .before .before .before .before .before .before .before .before .before .before .before .before .before .before .before .run in
-    let loop· = c .before .before .before .before .before .before .before .before .before .before .before .before .before .before .before .before .before .before .before .before .before .before .before .before .before .before .before .before .before .before .before .before .before .before .before .loop in
-    let pre· = c .before .before .before .before .before .before .before .before .before .before .before .before .before .before .before .before .before .before .before .before .before .before .before .before .before .before .before .before .before .before .before .before .before .before .before .before .before .before .before .before .before .before .before .before .before .before .before .pre in
-    let start· = c .before .before .before .before .before .before .before .before .before .before .before .before .before .before .before .before .before .before .before .before .before .before .before .before .before .before .before .before .before .before .before .before .before .before .before .before .start in
-    let turn· = c .before .before .before .before .before .before .before .before .before .before .before .before .before .before .before .before .turn in
-    let course2· = c .before .before .before .before .before .before .before .before .before .before .before .course2 in
+    let run· = c .before .before .before .before .before .before .before .before .before .before .before .before .before .before .before .before .before .before .before .before .before .before .before .before .before .before .before .before .run in
+    let loop· = c .before .before .before .before .before .before .before .before .before .before .before .before .before .before .before .before .before .before .before .before .before .before .before .before .before .before .before .before .before .before .before .before .before .before .loop in
+    let pre· = c .before .before .before .before .before .before .before .before .before .before .before .before .before .before .before .before .before .before .before .before .before .before .before .before .before .before .before .before .before .before .before .before .before .before .before .before .before .before .before .before .before .before .before .pre in
+    let start· = c .before .before .before .before .before .before .before .before .before .before .before .before .before .before .before .before .before .before .before .before .before .before .before .before .before .before .before .before .before .before .before .before .before .before .before .start in
+    let turn· = c .before .before .before .before .before .before .before .before .before .before .before .before .before .before .before .turn in
+    let course2· = c .before .before .before .before .before .before .before .before .before .before .course2 in
     let draw· = c .before .before .before .before .draw in
     let if2· = c .before .if2 in
-    let finish2· = c .finish2 in
-    let k = walk-keeps _ (now (args· .piece)) _ (run· .ensures .0 (loop· .map)) (loop· .inv) in
-    loop-refused (args· .session) (now (args· .store)) (now (args· .piece)) (now (args· .out)) pre· (start· .result) (start· .ensures) (run· .result .progress) (run· .last .1 .1 .0) (run· .last .1 .1 .1 .0) (run· .last .1 .1 .1 .1 .0) (drawingOf (run· .result .pen) (run· .result .command) (run· .result .look) (loop· .map)) (run· .last .1 .1 .1 .1 .1 .0) (run· .last .1 .1 .1 .1 .1 .1 .1 .0) k (turn· .result) (turn· .last .1 .1 .1 .0) (turn· .last .1 .1 .1 .1 .0) (turn· .last .1 .1 .1 .1 .1 .0) (turn· .last .1 .1 .1 .1 .1 .1 .0) (turn· .ensures .0)
-    _ (course2· .given .1) (turn· .ensures .1 .0) (draw· .result) (draw· .last .1 .1 .1 .1 .1 .0) (draw· .last .1 .1 .1 .1 .1 .1 .0) (draw· .ensures .0) (draw· .last .1 .1 .1 .0) (draw· .last .1 .1 .1 .1 .0) (draw· .ensures .1) (if2· .taken) (run· .result .pen) (run· .result .command) (run· .result .look) (loop· .map) refl (finish2· .result) (finish2· .ensures)
+    let args· = c .before .before .before .before .before .before .before .before .before .before .before .before .before .before .before .before .before .before .before .before .before .before .before .before .before .before .before .before .before .before .before .before .before .before .before .before .before .before .before .before .before .before .before .args in
+    hands-over _ _ (now (args· .piece)) (now (args· .out)) pre· _ (start· .ensures) _ _ _ _ _ _ _ _ (loop-refused _ _ _ _ _ _ _ _ (drawingOf (run· .result .pen) (run· .result .command) (run· .result .look) (loop· .map)) _ _ (walk-keeps _ _ _ (run· .ensures .0 (loop· .map)) (loop· .inv)) (turn· .result) _ _ _ _ (turn· .ensures .0)
+    _ (course2· .given .1) (turn· .ensures .1 .0) (draw· .result) (draw· .last .1 .1 .1 .1 .1 .0) (draw· .last .1 .1 .1 .1 .1 .1 .0) (draw· .ensures .0) (draw· .last .1 .1 .1 .0) (draw· .last .1 .1 .1 .1 .0) (draw· .ensures .1) (if2· .taken) (run· .result .pen) (run· .result .command) (run· .result .look) (loop· .map) refl) _ (c .finish2 .ensures)
 
 loop-less-3 : tie.Need-loop-less-3 Inv-loop μ-loop
 loop-less-3 c =
-    let args· = c .before .before .before .before .before .before .before .before .before .before .before .before .before .before .before .before .before .before .before .before .before .before .before .before .before .before .before .before .before .before .before .before .before .before .before .before .before .before .before .before .before .before .before .before .before .before .before .args in
-    let run· = c .before .before .before .before .before .before .before .before .before .before .before .before .before .before .before .before .before .before .before .before .before .before .before .before .before .before .before .before .before .run in
-    let loop· = c .before .before .before .before .before .before .before .before .before .before .before .before .before .before .before .before .before .before .before .before .before .before .before .before .before .before .before .before .before .before .before .before .before .before .before .loop in
-    let pre· = c .before .before .before .before .before .before .before .before .before .before .before .before .before .before .before .before .before .before .before .before .before .before .before .before .before .before .before .before .before .before .before .before .before .before .before .before .before .before .before .before .before .before .before .before .before .before .before .pre in
-    let start· = c .before .before .before .before .before .before .before .before .before .before .before .before .before .before .before .before .before .before .before .before .before .before .before .before .before .before .before .before .before .before .before .before .before .before .before .before .start in
-    let turn· = c .before .before .before .before .before .before .before .before .before .before .before .before .before .before .before .before .turn in
-    let course2· = c .before .before .before .before .before .before .before .before .before .before .before .course2 in
+    let run· = c .before .before .before .before .before .before .before .before .before .before .before .before .before .before .before .before .before .before .before .before .before .before .before .before .before .before .before .before .run in
+    let loop· = c .before .before .before .before .before .before .before .before .before .before .before .before .before .before .before .before .before .before .before .before .before .before .before .before .before .before .before .before .before .before .before .before .before .before .loop in
+    let turn· = c .before .before .before .before .before .before .before .before .before .before .before .before .before .before .before .turn in
+    let course2· = c .before .before .before .before .before .before .before .before .before .before .course2 in
     let draw· = c .before .before .before .before .draw in
     let if2· = c .before .if2 in
-    let after-drawing· = c .after-drawing in
-    let k = walk-keeps _ (now (args· .piece)) _ (run· .ensures .0 (loop· .map)) (loop· .inv) in
-    let on = loop-draws (args· .session) (now (args· .store)) (now (args· .piece)) (now (args· .out)) pre· (start· .result) (start· .ensures) (run· .result .progress) (run· .last .1 .1 .0) (run· .last .1 .1 .1 .0) (run· .last .1 .1 .1 .1 .0) (drawingOf (run· .result .pen) (run· .result .command) (run· .result .look) (loop· .map)) (run· .last .1 .1 .1 .1 .1 .0) (run· .last .1 .1 .1 .1 .1 .1 .1 .0) k (turn· .result) (turn· .last .1 .1 .1 .0) (turn· .last .1 .1 .1 .1 .0) (turn· .last .1 .1 .1 .1 .1 .0) (turn· .last .1 .1 .1 .1 .1 .1 .0) (turn· .ensures .0)
-    _ (course2· .given .1) (turn· .ensures .1 .0) (draw· .result) (draw· .last .1 .1 .1 .1 .1 .0) (draw· .last .1 .1 .1 .1 .1 .1 .0) (draw· .ensures .0) (draw· .last .1 .1 .1 .0) (draw· .last .1 .1 .1 .1 .0) (draw· .ensures .1) (if2· .left) (after-drawing· .result) (after-drawing· .ensures) in
+    let on = loop-draws _ _ _ _ _ _ _ _ (drawingOf (run· .result .pen) (run· .result .command) (run· .result .look) (loop· .map)) _ _ (walk-keeps _ _ _ (run· .ensures .0 (loop· .map)) (loop· .inv)) (turn· .result) _ _ _ _ (turn· .ensures .0)
+    _ (course2· .given .1) (turn· .ensures .1 .0) (draw· .result) (draw· .last .1 .1 .1 .1 .1 .0) (draw· .last .1 .1 .1 .1 .1 .1 .0) (draw· .ensures .0) (draw· .last .1 .1 .1 .0) (draw· .last .1 .1 .1 .1 .0) (draw· .ensures .1) (if2· .left) (c .after-drawing .result) (c .after-drawing .ensures) in
     omega (arith, on .1, on .2, walk-steps (run· .ensures .0 (loop· .map)) (loop· .inv .stands))
 
 loop-again-3 : tie.Need-loop-again-3 Inv-loop μ-loop
 loop-again-3 c =
-    let args· = c .before .before .before .before .before .before .before .before .before .before .before .before .before .before .before .before .before .before .before .before .before .before .before .before .before .before .before .before .before .before .before .before .before .before .before .before .before .before .before .before .before .before .before .before .before .before .before .args in
-    let run· = c .before .before .before .before .before .before .before .before .before .before .before .before .before .before .before .before .before .before .before .before .before .before .before .before .before .before .before .before .before .run in
-    let loop· = c .before .before .before .before .before .before .before .before .before .before .before .before .before .before .before .before .before .before .before .before .before .before .before .before .before .before .before .before .before .before .before .before .before .before .before .loop in
-    let pre· = c .before .before .before .before .before .before .before .before .before .before .before .before .before .before .before .before .before .before .before .before .before .before .before .before .before .before .before .before .before .before .before .before .before .before .before .before .before .before .before .before .before .before .before .before .before .before .before .pre in
-    let start· = c .before .before .before .before .before .before .before .before .before .before .before .before .before .before .before .before .before .before .before .before .before .before .before .before .before .before .before .before .before .before .before .before .before .before .before .before .start in
-    let turn· = c .before .before .before .before .before .before .before .before .before .before .before .before .before .before .before .before .turn in
-    let course2· = c .before .before .before .before .before .before .before .before .before .before .before .course2 in
+    let run· = c .before .before .before .before .before .before .before .before .before .before .before .before .before .before .before .before .before .before .before .before .before .before .before .before .before .before .before .before .run in
+    let loop· = c .before .before .before .before .before .before .before .before .before .before .before .before .before .before .before .before .before .before .before .before .before .before .before .before .before .before .before .before .before .before .before .before .before .before .loop in
+    let turn· = c .before .before .before .before .before .before .before .before .before .before .before .before .before .before .before .turn in
+    let course2· = c .before .before .before .before .before .before .before .before .before .before .course2 in
     let draw· = c .before .before .before .before .draw in
     let if2· = c .before .if2 in
-    let after-drawing· = c .after-drawing in
-    let k = walk-keeps _ (now (args· .piece)) _ (run· .ensures .0 (loop· .map)) (loop· .inv) in
-    loop-draws (args· .session) (now (args· .store)) (now (args· .piece)) (now (args· .out)) pre· (start· .result) (start· .ensures) (run· .result .progress) (run· .last .1 .1 .0) (run· .last .1 .1 .1 .0) (run· .last .1 .1 .1 .1 .0) (drawingOf (run· .result .pen) (run· .result .command) (run· .result .look) (loop· .map)) (run· .last .1 .1 .1 .1 .1 .0) (run· .last .1 .1 .1 .1 .1 .1 .1 .0) k (turn· .result) (turn· .last .1 .1 .1 .0) (turn· .last .1 .1 .1 .1 .0) (turn· .last .1 .1 .1 .1 .1 .0) (turn· .last .1 .1 .1 .1 .1 .1 .0) (turn· .ensures .0)
-    _ (course2· .given .1) (turn· .ensures .1 .0) (draw· .result) (draw· .last .1 .1 .1 .1 .1 .0) (draw· .last .1 .1 .1 .1 .1 .1 .0) (draw· .ensures .0) (draw· .last .1 .1 .1 .0) (draw· .last .1 .1 .1 .1 .0) (draw· .ensures .1) (if2· .left) (after-drawing· .result) (after-drawing· .ensures) .0
+    loop-draws _ _ _ _ _ _ _ _ (drawingOf (run· .result .pen) (run· .result .command) (run· .result .look) (loop· .map)) _ _ (walk-keeps _ _ _ (run· .ensures .0 (loop· .map)) (loop· .inv)) (turn· .result) _ _ _ _ (turn· .ensures .0)
+    _ (course2· .given .1) (turn· .ensures .1 .0) (draw· .result) (draw· .last .1 .1 .1 .1 .1 .0) (draw· .last .1 .1 .1 .1 .1 .1 .0) (draw· .ensures .0) (draw· .last .1 .1 .1 .0) (draw· .last .1 .1 .1 .1 .0) (draw· .ensures .1) (if2· .left) (c .after-drawing .result) (c .after-drawing .ensures) .0
 
 pub read-spec : {M : Type 1} → statement M
 read-spec =
