@@ -17,7 +17,7 @@ use Rattle.command_runs.proofs.run_commands.Tie as tie
 
 -- The row is the open command's, the places are in range, the output keeps its length, the pen lent has room for eight bytes and its point
 -- is known, and the bytes so far are a run
-record Kept (pen : Pen) (bytes : List ℕ) (from to : ℕ) (out₀ : List ℕ) (ink : Head) (domain : Domain) (pel : Point) (n at₀ : ℕ) (command₀ : Command) (out : List ℕ) (row : Row) (place at : ℕ) (point : Point) (command : Command) : Type 0 where
+record RunSoFar (pen : Pen) (bytes : List ℕ) (from to : ℕ) (out₀ : List ℕ) (ink : Head) (domain : Domain) (pel : Point) (n at₀ : ℕ) (command₀ : Command) (out : List ℕ) (row : Row) (place at : ℕ) (point : Point) (command : Command) : Type 0 where
   own : row ≡ rowOf (command .opcode)
   begun : from ≤ place
   within : place ≤ to
@@ -30,7 +30,7 @@ record Kept (pen : Pen) (bytes : List ℕ) (from to : ℕ) (out₀ : List ℕ) (
 
 abbrev Inv-loop : tie.InvT-loop
 Inv-loop pen bytes from to out₀ at ink domain pel n table row₀ place₀ at₀ point₀ command₀ out row place at′ point command =
-    Kept pen bytes from to out₀ ink domain pel n at₀ command₀ out row place at′ point command
+    RunSoFar pen bytes from to out₀ ink domain pel n at₀ command₀ out row place at′ point command
 
 abbrev μ-loop : tie.MeasureT-loop
 μ-loop pen bytes from to out₀ at ink domain pel n table row₀ place₀ at₀ point₀ command₀ out row place at′ point command = to - place

@@ -11,14 +11,14 @@ use Rattle.drawing_runs.proofs.strokes.lines.Statement.{statement}
 use Rattle.drawing_runs.proofs.strokes.lines.Tie as tie
 
 -- n points are read, and the lines to them written
-record Drawn (head : Head) (pel : Point) (bytes : List ℕ) (from : ℕ) (out₀ : List ℕ) (at limit : ℕ) (point₀ : Point) (out : List ℕ) (n : ℕ) (point : Point) : Type 0 where
+record LinesSoFar (head : Head) (pel : Point) (bytes : List ℕ) (from : ℕ) (out₀ : List ℕ) (at limit : ℕ) (point₀ : Point) (out : List ℕ) (n : ℕ) (point : Point) : Type 0 where
   most : n ≤ limit
   long : length out ≡ length out₀
   room : at + 40 * n ≤ length out₀
   lines : Lines bytes from head pel point₀ at out₀ (3 * n) point (at + 40 * n) out
 
 abbrev Inv-loop : tie.InvT-loop
-Inv-loop head pel bytes from to out₀ at most n₀ point₀ out n point = Drawn head pel bytes from out₀ at most point₀ out n point
+Inv-loop head pel bytes from to out₀ at most n₀ point₀ out n point = LinesSoFar head pel bytes from out₀ at most point₀ out n point
 
 abbrev μ-loop : tie.MeasureT-loop
 μ-loop head pel bytes from to out₀ at most n₀ point₀ out n point = most - n
