@@ -1,9 +1,9 @@
 -- What is kept along a walk
 use Rattle.reading.proofs.Prelude.{ℕ, _-_, _∙_, List, length, drop}
-use Rattle.rules.specs.Reading.{Room}
+use Rattle.rules.specs.Reading.{Room, stepsLeft}
 use Rattle.rules.specs.Step.{State, removeSpent}
 use Rattle.rules.proofs.Readings.{reading-removed}
-use Rattle.turn_runs.specs.Walk.{Place, budgetLeft, Walk, none, removed, step}
+use Rattle.turn_runs.specs.Walk.{Place, Walk, none, removed, step}
 use Rattle.turn_runs.proofs.ProgressLaws.{walk-stands}
 use Rattle.reading.proofs.Whole.{Kept, kept-on}
 
@@ -16,7 +16,7 @@ walk-keeps w piece out none i = i
 walk-keeps w piece out (removed {y} a) i =
     let j = walk-keeps w piece out a i in
     record {
-      same = j .same ∙ rw (reading-removed (Room (length (y .output) - y .written)) (budgetLeft (y .state)) (y .state) (drop (y .at) piece));
+      same = j .same ∙ rw (reading-removed (Room (length (y .output) - y .written)) (stepsLeft (y .state)) (y .state) (drop (y .at) piece));
       past = j .past;
       long = j .long;
       stands = walk-stands (removed none) (j .stands);

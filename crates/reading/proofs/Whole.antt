@@ -5,7 +5,7 @@ use Rattle.rules.specs.Numbers.{roomForStep}
 use Rattle.rules.specs.Record.{bytesOfAll}
 use Rattle.rules.specs.Step.{State, Source, FromBody, FromPiece}
 use Rattle.rules.specs.Turn.{Taken, Turn, Ends, Takes, turn}
-use Rattle.rules.specs.Reading.{Reading, Room, rests, consumedBy, stepThen, reading, Valid}
+use Rattle.rules.specs.Reading.{Reading, Room, rests, consumedBy, stepThen, reading, stepsLeft, Valid}
 use Rattle.rules.specs.Calls.{handed}
 use Rattle.rules.proofs.Readings.{reads-ends, reads-takes}
 use Rattle.rules.proofs.Turns.{turn-advances}
@@ -14,7 +14,7 @@ use Rattle.records.proofs.Writes.{overwrite-length}
 use Rattle.turns.specs.declared.step.Course.{Course}
 use Rattle.turns.specs.declared.step.Course.the-variants.{GoesOn, Ends as Ends·course, Draws}
 use Rattle.turns.specs.Leaving.{Left, leaves}
-use Rattle.turn_runs.specs.Walk.{placed, Stands, budgetLeft, none, step}
+use Rattle.turn_runs.specs.Walk.{placed, Stands, none, step}
 use Rattle.turn_runs.proofs.ProgressLaws.{walk-stands}
 
 -- So many bytes consumed and records written before a reading
@@ -30,10 +30,10 @@ drop-on FromBody n l = refl
 drop-on FromPiece n l = drop-drop 1 n l ∙ ap (λ (k : ℕ). drop k l) (add-one n)
 
 abbrev pub wholeReading : State → List ℕ → List ℕ → Reading
-wholeReading w piece out = reading (Room (length out)) (budgetLeft w) w piece
+wholeReading w piece out = reading (Room (length out)) (stepsLeft w) w piece
 
 pub record Kept (w₀ : State) (piece out₀ : List ℕ) (w : State) (at written : ℕ) (out : List ℕ) : Type 0 where
-  pub same : wholeReading w₀ piece out₀ ≡ ahead at (take written out) (reading (Room (length out - written)) (budgetLeft w) w (drop at piece))
+  pub same : wholeReading w₀ piece out₀ ≡ ahead at (take written out) (reading (Room (length out - written)) (stepsLeft w) w (drop at piece))
   pub past : drop written out ≡ drop written out₀
   pub long : length out ≡ length out₀
   pub stands : Stands piece (placed w at written out)
@@ -50,7 +50,7 @@ kept-first w piece out v =
 module _ (w₀ : State) (piece out₀ : List ℕ) (w : State) (at written : ℕ) (out : List ℕ) where
   -- A turn that goes on keeps it
   pub kept-on : {n : ℕ} {t : Taken} → Kept w₀ piece out₀ w at written out
-      → budgetLeft w ≡ suc n → turn (ltb (length out - written) roomForStep) (suc n) w (drop at piece) ≡ Takes t
+      → stepsLeft w ≡ suc n → turn (ltb (length out - written) roomForStep) (suc n) w (drop at piece) ≡ Takes t
       → Kept w₀ piece out₀ (t .after) (consumedBy (t .source) at) (written + length (bytesOfAll (t .records))) (overwrite written (bytesOfAll (t .records)) out)
   unfolding overwrite
   kept-on {n} {t} i b e =
@@ -65,7 +65,7 @@ module _ (w₀ : State) (piece out₀ : List ℕ) (w : State) (at written : ℕ)
       let joined : take written out ++ (bs ++ drop (written + length bs) out) ≡ (take written out ++ bs) ++ drop (written + length bs) out = sym (append-assoc (take written out) bs (drop (written + length bs) out)) in
       let so-far : take written out ++ bs ≡ take (written + length bs) (overwrite written bs out) =
       sym (ap (take (written + length bs)) joined ∙ take-at (take written out ++ bs) (drop (written + length bs) out) (written + length bs) ln) in
-      let left : n ≡ budgetLeft (t .after) = omega (arith, b, f .later .budget, f .later .steps) in
+      let left : n ≡ stepsLeft (t .after) = omega (arith, b, f .later .budget, f .later .steps) in
       let free-after : length out - written - length bs ≡ length (overwrite written bs out) - (written + length bs) = omega arith in
       record {
         same =
@@ -86,7 +86,7 @@ module _ (w₀ : State) (piece out₀ : List ℕ) (w : State) (at written : ℕ)
 
   -- A turn that ends the reading hands the whole over
   pub kept-ends : (a : Answer) (v : State) → Kept w₀ piece out₀ w at written out
-      → reading (Room (length out - written)) (budgetLeft w) w (drop at piece) ≡ rests a v
+      → reading (Room (length out - written)) (stepsLeft w) w (drop at piece) ≡ rests a v
       → record { answer = a; state = v; consumed = at; written = written; output = out } ≡ handed (wholeReading w₀ piece out₀) out₀
   kept-ends a v i f =
       rw (i .same ∙ ap (ahead at (take written out)) f, append-nil (take written out), length-take-le written out (i .stands .within), add-zero at, ← i .past)
@@ -102,7 +102,7 @@ module _ (w₀ : State) (piece out₀ : List ℕ) (w : State) (at written : ℕ)
   Next (Draws a) x = Unit
 
   turn-next : {n : ℕ} (t : Turn n) → Kept w₀ piece out₀ w at written out
-      → budgetLeft w ≡ n → turn (ltb (length out - written) roomForStep) n w (drop at piece) ≡ t
+      → stepsLeft w ≡ n → turn (ltb (length out - written) roomForStep) n w (drop at piece) ≡ t
       → Next (leaves t at written out .course) (leaves t at written out)
   unfolding leaves
   turn-next {n} (Ends a v) i b e =
@@ -113,7 +113,7 @@ module _ (w₀ : State) (piece out₀ : List ℕ) (w : State) (at written : ℕ)
 
   -- What a turn leaves, as a function of it answered
   pub kept-next : (x : Left) → Kept w₀ piece out₀ w at written out
-      → x ≡ leaves (turn (ltb (length out - written) roomForStep) (budgetLeft w) w (drop at piece)) at written out → Next (x .course) x
+      → x ≡ leaves (turn (ltb (length out - written) roomForStep) (stepsLeft w) w (drop at piece)) at written out → Next (x .course) x
   kept-next x i e =
       subst (λ (y : Left). Next (y .course) y) (sym e)
-      (turn-next (turn (ltb (length out - written) roomForStep) (budgetLeft w) w (drop at piece)) i refl refl)
+      (turn-next (turn (ltb (length out - written) roomForStep) (stepsLeft w) w (drop at piece)) i refl refl)

@@ -20,9 +20,9 @@ abbrev Known : {n : ℕ} → Bool → State → List ℕ → Turn n → Type 0
 Known full w bs (Ends a v) = Unit {0}
 Known full w bs (Takes t) = Advance full w bs t
 
-consumed-most : (s : Source) (n m : ℕ) → m ≡ consumedBy s n → consumedBy s 0 ≤ m
-consumed-most FromBody n m e = omega arith
-consumed-most FromPiece n m e = omega arith
+consumed-some : (s : Source) (n m : ℕ) → m ≡ consumedBy s n → consumedBy s 0 ≤ m
+consumed-some FromBody n m e = omega arith
+consumed-some FromPiece n m e = omega arith
 
 module _ (w : State) (bs : List ℕ) (valid : Valid w) where
   move-known : (n : ℕ) {b : ℕ} {v : State} {s : Source} {r : List ℕ} (m : Move) → seek (removeSpent w) bs ≡ Found b v s r → interpret v s b ≡ m
@@ -37,7 +37,7 @@ module _ (w : State) (bs : List ℕ) (valid : Valid w) where
       record {
         free = refl;
         few = omega arith;
-        some = consumed-most s (length r) (length bs) (t .1);
+        some = consumed-some s (length r) (length bs) (t .1);
         rest = sym (t .0 0);
         later = later-then a (step-later (removeSpent w) bs (a .valid valid) q e);
       }

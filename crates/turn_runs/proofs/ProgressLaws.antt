@@ -34,9 +34,10 @@ use Rattle.coding.specs.View.{codingOf}
 use Rattle.coding_runs.specs.Idle.{Idle, coded}
 use Rattle.coding_runs.specs.declared.Idled.{Idled}
 use Rattle.turns.specs.declared.progress.Progress.{Progress}
+use Rattle.turns.specs.declared.progress.Reached.{Reached}
 use Rattle.turns.specs.Progress.{atDepth, placeAfter, ranOn, codedOn}
 use Rattle.turns.specs.View.{stateAt, NoneSpent}
-use Rattle.turn_runs.specs.Walk.{Place, placed, placeAt, Walk, none, removed, step, Stands, sourceOf, placesAfter, Lies, Most}
+use Rattle.turn_runs.specs.Walk.{Place, placed, placeAt, reachedAt, Walk, none, removed, step, Stands, sourceOf, placesAfter, Lies}
 use Rattle.turn_runs.proofs.RunLaws.{run-walk, piece-feeds, body-feeds, idle-walk, calls-walk}
 
 -- A walk after a walk
@@ -44,6 +45,10 @@ pub walk-then : {piece : List ℕ} {x y z : Place} → Walk piece x y → Walk p
 walk-then a none = a
 walk-then a (removed b) = removed (walk-then a b)
 walk-then a (step b m e) = step (walk-then a b) m e
+
+pub walk-from : {budget : ℕ} {r s : Reached} {cells places firsts map st piece out : List ℕ} {y : Place} → r ≡ s
+    → Walk piece (reachedAt budget r cells places firsts map st out) y → Walk piece (reachedAt budget s cells places firsts map st out) y
+walk-from e a = rw (← e) a
 
 -- Spent bodies removed
 
@@ -160,13 +165,9 @@ lies-less end h l m =
       gives = λ i e k n. h .gives i e k (omega arith);
     }
 
-lies-most : (d : ℕ) {at : ℕ} {cells places st piece : List ℕ} {from to : ℕ} (n : ℕ) → Lies d at cells places st piece from to → from + n ≤ to → at ≤ length piece → placeAfter d n at ≤ length piece
+pub lies-most : (d : ℕ) {at : ℕ} {cells places st piece : List ℕ} {from to : ℕ} (n : ℕ) → Lies d at cells places st piece from to → from + n ≤ to → at ≤ length piece → placeAfter d n at ≤ length piece
 lies-most zero n h l m = omega (arith, h .start refl, h .within)
 lies-most (suc i) n h l m = m
-
-pub run-most : (n budget : ℕ) (p : Progress) {cells places st piece : List ℕ} {from to : ℕ} → Lies (p .depth) (p .at) cells places st piece from to → from + n ≤ to → to - from ≤ budget - p .steps
-    → p .at ≤ length piece → budget ≤ 4294967295 → p .steps ≤ 4294967295 → Most n budget p piece
-run-most n budget p h l few on b s = (omega arith, lies-most (p .depth) n h l on, omega arith)
 
 -- A cell read on
 pub depth-body : (d : ℕ) → (d ≡ 0 → ⊥) → d ≡ suc (d - 1)
@@ -278,24 +279,7 @@ coded-most p to n d s x r e h = rw e (omega arith)
 pub coded-more : (p : Progress) (n d : ℕ) (s : Sets) (x : Waiting) (r : Progress) → r ≡ codedOn n d s x p → (n ≡ 0 → ⊥) → r .steps ≤ p .steps → ⊥
 coded-more p n d s x r e h l = let m : p .steps + n ≤ p .steps = rw e at l in h (omega (arith, m))
 
--- The place of the piece after a run
-pub after-same : (d at : ℕ) → placeAfter d 0 at ≡ at
-after-same zero at = add-zero at
-after-same (suc i) at = refl
-
 -- The pen after strokes rests at their last point
 pub pen-rests : (pen : Pen) (n : ℕ) (q : Point) → 0 < n → record { point = q; operand = noOperand } ≡ penAfter n pen q
 pen-rests pen zero q h = absurd (omega (arith, h))
 pen-rests pen (suc n) q h = refl
-
--- No byte is drawn
-
-pub none-walk : (budget : ℕ) (p : Progress) (cells places firsts : List ℕ) (pen : Pen) (command : Command) (look : Look) (map st piece out : List ℕ)
-    → (n written : ℕ) (pen₁ : Pen) (command₁ : Command) → n ≡ 0 → written ≡ p .written → pen₁ ≡ pen → command₁ ≡ command
-    → Walk piece (placeAt budget p cells places firsts (drawingOf pen command look map) st out)
-    (placeAt budget (ranOn n written p) cells places firsts (drawingOf pen₁ command₁ look map) st out)
-none-walk budget p cells places firsts pen command look map st piece out n written pen₁ command₁ e f g h =
-    rw (e, f, g, h, after-same (p .depth) (p .at), add-zero (p .steps)) none
-
-pub none-most : (n budget : ℕ) (p : Progress) (piece : List ℕ) → n ≡ 0 → p .at ≤ length piece → p .steps ≤ 4294967295 → Most n budget p piece
-none-most n budget p piece e h l = rw (e, after-same (p .depth) (p .at)) (omega arith, h, omega arith)

@@ -6,14 +6,13 @@ use Rattle.rules.specs.Bodies.{bodyAt}
 use Rattle.rules.specs.Record.{bytesOfAll}
 use Rattle.rules.specs.Step.{State, removeSpent}
 use Rattle.rules.specs.Turn.{Taken, Takes, turn}
-use Rattle.rules.specs.Reading.{consumedBy, Valid}
+use Rattle.rules.specs.Reading.{consumedBy, stepsLeft, Valid}
 use Rattle.records.specs.Bytes.{overwrite}
 use Rattle.store.specs.Lent.{Sized}
 use Rattle.store.specs.Stretch.{Gives}
 use Rattle.bodies.specs.Stack.{bodiesOf}
 use Rattle.figures.specs.Carried.{drawingOf}
 use Rattle.turns.specs.declared.progress.Progress.{Progress}
-use Rattle.turns.specs.Progress.{placeAfter}
 use Rattle.turns.specs.View.{stateAt}
 use Rattle.turns.specs.declared.progress.Reached.{Reached}
 
@@ -34,14 +33,10 @@ abbrev pub reachedAt : ℕ → Reached → List ℕ → List ℕ → List ℕ �
 reachedAt budget r cells places firsts map st out =
     placeAt budget (r .progress) cells places firsts (drawingOf (r .pen) (r .command) (r .look) map) st out
 
--- What is left to do of the budget
-abbrev pub budgetLeft : State → ℕ
-budgetLeft w = w .session .budget - w .session .steps
-
 pub data Walk (piece : List ℕ) (x : Place) : Place → Type 0 where
   none : Walk piece x x
   removed : {y : Place} → Walk piece x y → Walk piece x (placed (removeSpent (y .state)) (y .at) (y .written) (y .output))
-  step : {y : Place} {n : ℕ} {t : Taken} → Walk piece x y → budgetLeft (y .state) ≡ suc n
+  step : {y : Place} {n : ℕ} {t : Taken} → Walk piece x y → stepsLeft (y .state) ≡ suc n
       → turn (ltb (length (y .output) - y .written) roomForStep) (suc n) (y .state) (drop (y .at) piece) ≡ Takes t
       → Walk piece x
       (placed (t .after) (consumedBy (t .source) (y .at)) (y .written + length (bytesOfAll (t .records)))
@@ -81,7 +76,3 @@ pub record Lies (d at : ℕ) (cells places st piece : List ℕ) (from to : ℕ) 
   pub start : d ≡ 0 → from ≡ at
   pub passes : (n : ℕ) → from + n ≤ to → Passes d n places
   pub gives : (i : ℕ) → d ≡ suc i → (k : ℕ) → from + k < to → Gives st (bodyAt (bodiesOf (suc i) cells places) i) from k
-
--- So many bytes are not more than the budget and the piece have
-abbrev pub Most : ℕ → ℕ → Progress → List ℕ → Type 0
-Most n budget p piece = (n ≤ budget - p .steps) × (placeAfter (p .depth) n (p .at) ≤ length piece) × (p .steps + n ≤ 4294967295)

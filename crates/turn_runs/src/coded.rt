@@ -1,7 +1,7 @@
 // Runs of bytes of the piece that write no record: definitions, escape sequences, controls, calls of empty bodies.
 use crate::awaits_nothing;
 use crate::reach;
-use crate::set_read;
+use crate::set_in_use;
 use bodies::calls::empty_calls;
 use bodies::depth_left;
 use bodies::set_body;
@@ -103,7 +103,7 @@ fn names_piece(
     ensures most { λ r. ⌜ r .steps - progress .steps ≤ to - progress .at ⌝ }
     ensures still { λ r. ⌜ (r .steps ≤ progress .steps → r .depth ≡ 0) ⌝ }
 {
-    if let Set::Macro = set_read(progress) {
+    if let Set::Macro = set_in_use(progress) {
         return call_piece(progress, to, cells, places, firsts, piece);
     }
     progress

@@ -1,7 +1,7 @@
 // Runs of bytes that are drawn, from the cell of the innermost body or from the piece.
 use crate::awaits_nothing;
 use crate::reach;
-use crate::set_read;
+use crate::set_in_use;
 use bodies::body_at;
 use command_runs::run_commands;
 use drawing::data::resting;
@@ -17,6 +17,8 @@ use store::cursors::Stretch;
 use store::cursors::stretch_of;
 use tables::controls::is_recorded;
 use turns::progress::Progress;
+use turns::progress::Reached;
+use turns::progress::after_run;
 ghost use mathlib.Core.Path.{_≡_};
 ghost use mathlib.Core.Bool.{true};
 ghost use mathlib.Core.List.{List};
@@ -24,10 +26,8 @@ ghost use Prim.Native.Nat.{ℕ, _+_, _-_, _≤_};
 ghost use lib.ListN.{length};
 ghost use Rattle.rules.specs.Ranges.{domainFits, commandFits};
 ghost use Rattle.store.specs.Lent.{Sized};
-ghost use Rattle.figures.specs.Carried.{drawingOf};
 ghost use Rattle.drawing_runs.specs.Run.{Run, standing};
-ghost use Rattle.turns.specs.Progress.{ranOn};
-ghost use Rattle.turn_runs.specs.Walk.{placeAt, Walk, Fit, sourceOf, Lies, Passes, placesAfter, Most};
+ghost use Rattle.turn_runs.specs.Walk.{Walk, Fit, sourceOf, Lies, Passes, placesAfter, reachedAt};
 
 fn none_drawn(pen: Pen, command: Command, at: usize) -> Ran
     ensures { λ r. ⌜ r ≡ record { count = 0; at = at; pen = pen; command = command } ⌝ }
@@ -176,7 +176,7 @@ fn bytes_next(
     requires { ⌜ (Sized (now store)) × (progress .depth ≤ 8) × (progress .at ≤ length (now piece)) ⌝ }
     ensures lies { λ r. ⌜ Lies (progress .depth) (progress .at) (now (cells .entry)) (now (places .entry)) (now (store .entry))
         (now (piece .entry)) (r .from) (r .to) ⌝ }
-    ensures few { λ r. ⌜ r .to - r .from ≤ budget - progress .steps ⌝ }
+    ensures few { λ r. ⌜ (r .to - r .from ≤ budget - progress .steps) × (progress .steps + (r .to - r .from) ≤ 4294967295) ⌝ }
 {
     let stretch = stretch_next(progress, cells, places, store, piece);
     Stretch {
@@ -209,40 +209,48 @@ fn begins_drawn(bytes: &[u8], from: usize, to: usize) -> bool
 
 // Bytes that are drawn, of the innermost body, else of the piece.
 pub fn run_drawn<'a>(
-    progress: Progress,
-    pen: Pen,
-    command: Command,
-    look: Look,
+    reached: Reached,
     budget: u32,
     cells: &[u8; 8],
     places: &mut [u8; 8],
     store: &'a [u8],
     piece: &'a [u8],
     out: &mut [u8],
-) -> Ran
-    requires { ⌜ (Fit progress (now store) (now piece) (now out)) × (domainFits (look .domain) ≡ true) × (commandFits command ≡ true) ⌝ }
+) -> Reached
+    requires { ⌜ (Fit (reached .progress) (now store) (now piece) (now out))
+        × (domainFits (reached .look .domain) ≡ true) × (commandFits (reached .command) ≡ true) ⌝ }
     ensures walk { λ r. ⌜ ((firsts map : List ℕ)
         → Walk (now (piece .entry))
-        (placeAt budget progress (now (cells .entry)) (now (places .entry)) firsts (drawingOf pen command look map)
-        (now (store .entry)) (now (out .entry)))
-        (placeAt budget (ranOn (r .count) (r .at) progress) (now (cells .entry)) (now (places .exit)) firsts
-        (drawingOf (r .pen) (r .command) look map) (now (store .entry)) (now (out .exit)))) ⌝ }
-    ensures most { λ r. ⌜ Most (r .count) budget progress (now (piece .entry)) ⌝ }
-    ensures still { λ r. ⌜ (r .count ≡ 0 → (r .at ≡ progress .written) × (r .pen ≡ pen) × (r .command ≡ command)
+        (reachedAt budget reached (now (cells .entry)) (now (places .entry)) firsts map (now (store .entry)) (now (out .entry)))
+        (reachedAt budget r (now (cells .entry)) (now (places .exit)) firsts map (now (store .entry)) (now (out .exit)))) ⌝ }
+    ensures most { λ r. ⌜ r .progress .steps - reached .progress .steps ≤ budget - reached .progress .steps ⌝ }
+    ensures still { λ r. ⌜ (r .progress .steps ≤ reached .progress .steps
+        → (r .progress .steps ≡ reached .progress .steps) × (r .progress .depth ≡ reached .progress .depth)
         × (now (places .exit) ≡ now (places .entry))) ⌝ }
 {
+    let progress = reached.progress;
     let waiting = progress.waiting;
     if !awaits_nothing(waiting) {
-        return none_drawn(pen, command, progress.written);
+        return reached;
     }
     let next = bytes_next(progress, budget, cells, places, store, piece);
     let bytes = source_of(progress.depth, piece, store);
     if !begins_drawn(bytes, next.from, next.to) {
-        return none_drawn(pen, command, progress.written);
+        return reached;
     }
-    let set = set_read(progress);
+    let set = set_in_use(progress);
+    let pen = reached.pen;
+    let command = reached.command;
+    let look = reached.look;
     let at = progress.written;
     let ran = draw_set(set, pen, command, look, bytes, next.from, next.to, out, at);
     read_past(progress.depth, ran.count, places);
-    ran
+    let pen = ran.pen;
+    let command = ran.command;
+    Reached {
+        progress: after_run(progress, ran.count, ran.at),
+        pen,
+        command,
+        look,
+    }
 }

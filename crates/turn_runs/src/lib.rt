@@ -9,13 +9,13 @@ use tables::sets::set_of;
 use turns::progress::Progress;
 ghost use mathlib.Core.Path.{_≡_};
 ghost use mathlib.Core.Bool.{true};
-ghost use Prim.Native.Nat.{_-_, _≤_};
+ghost use Prim.Native.Nat.{_+_, _-_, _≤_};
 ghost use Rattle.rules.specs.Coding.{setOf};
 
 // How far a run may go: to the end of its bytes, as far as the budget lasts.
 fn reach(from: usize, end: usize, budget: u32, steps: u32) -> usize
     requires { ⌜ from ≤ end ⌝ }
-    ensures { λ r. ⌜ (from ≤ r) × (r ≤ end) × (r - from ≤ budget - steps) ⌝ }
+    ensures { λ r. ⌜ (from ≤ r) × (r ≤ end) × (r - from ≤ budget - steps) × (steps + (r - from) ≤ 4294967295) ⌝ }
 {
     if budget <= steps {
         return from;
@@ -37,7 +37,7 @@ fn awaits_nothing(waiting: Waiting) -> bool
 }
 
 // The set that bytes are read from where nothing is waited for.
-fn set_read(progress: Progress) -> Set
+fn set_in_use(progress: Progress) -> Set
     ensures { λ r. ⌜ r ≡ setOf (progress .sets .used) (progress .sets) ⌝ }
 {
     let sets = progress.sets;

@@ -2,7 +2,7 @@
 use crate::coded::run_coded;
 use crate::drawn::run_drawn;
 use turns::progress::Reached;
-use turns::progress::after_run;
+use turns::progress::with_progress;
 ghost use mathlib.Core.List.{List};
 ghost use Prim.Native.Nat.{ℕ, _-_, _≤_};
 ghost use Rattle.turns.specs.View.{NoneSpent};
@@ -33,29 +33,8 @@ pub fn run(
         → NoneSpent (r .progress .depth) (now (cells .exit)) (now (places .exit)) (now (store .exit))) ⌝ }
 {
     let progress = reached.progress;
-    let pen = reached.pen;
-    let command = reached.command;
-    let look = reached.look;
     let free = out.len() - progress.written;
-    let progress = run_coded(progress, budget, free, cells, places, firsts, store, piece);
-    let ran = run_drawn(
-        progress,
-        pen,
-        command,
-        look,
-        budget,
-        cells,
-        places,
-        store,
-        piece,
-        out,
-    );
-    let pen = ran.pen;
-    let command = ran.command;
-    Reached {
-        progress: after_run(progress, ran.count, ran.at),
-        pen,
-        command,
-        look,
-    }
+    let coded = run_coded(progress, budget, free, cells, places, firsts, store, piece);
+    let reached = with_progress(reached, coded);
+    run_drawn(reached, budget, cells, places, store, piece, out)
 }

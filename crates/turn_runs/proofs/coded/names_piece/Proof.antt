@@ -3,8 +3,8 @@ use Rattle.turn_runs.specs.Walk.{none}
 use Rattle.turn_runs.proofs.coded.names_piece.Statement.{statement}
 use Rattle.turn_runs.proofs.coded.names_piece.Tie as tie
 
-set-read-requires : tie.Need-set-read-requires
-set-read-requires c κs = search needs
+set-in-use-requires : tie.Need-set-in-use-requires
+set-in-use-requires c κs = search needs
 
 enum-told : tie.Need-enum-told
 enum-told c = search needs
@@ -12,9 +12,9 @@ enum-told c = search needs
 call-piece-requires : tie.Need-call-piece-requires
 call-piece-requires c κs =
     let pre· = c .before .before .before .before .before .before .pre in
-    let set-read· = c .before .before .before .before .set-read in
+    let set-in-use· = c .before .before .before .before .set-in-use in
     let enum-told· = c .before .before .enum-told in
-    (pre· .0, pre· .1, sym (set-read· .ensures) ∙ enum-told· .given .1, pre· .2, pre· .3, pre· .4)
+    (pre· .0, pre· .1, sym (set-in-use· .ensures) ∙ enum-told· .given .1, pre· .2, pre· .3, pre· .4)
 
 returns : tie.Need-returns
 returns c =
@@ -30,7 +30,7 @@ pub names-piece-spec : {M : Type 1} → statement M
 names-piece-spec =
     tie.close
     (tie.spec
-    set-read-requires
+    set-in-use-requires
     enum-told
     call-piece-requires
     returns
