@@ -135,6 +135,7 @@ pub fn run_commands(
     let n = domain.multi as usize;
     let rows = rows();
     let mut row = row_of(command.opcode);
+    let mut role = role_due(row, command);
     let mut place = from;
     let mut at = at;
     let mut point = pen.point;
@@ -143,7 +144,6 @@ pub fn run_commands(
         if out.len() - at < ROOM_FOR_STEP {
             return after(place - from, at, pen, point, command);
         }
-        let role = role_due(row, command);
         let byte = bytes[place];
         if byte < 64 {
             if !opens(role, byte) {
@@ -155,6 +155,7 @@ pub fn run_commands(
             point = opened.point;
             command = opened.command;
             row = next;
+            role = role_due(row, command);
             place += 1;
             if leaves_strokes(byte, bytes, place, to) {
                 return after(place - from, at, pen, point, command);
@@ -176,6 +177,7 @@ pub fn run_commands(
                 at = put_figure(traced.figure, ink, pel, out, at);
                 point = traced.point;
                 command = with_due(row, traced.command);
+                role = role_due(row, command);
                 place += n;
                 continue;
             }

@@ -2,14 +2,13 @@
 use bodies::bytes_left;
 use drawing::act;
 use drawing::closing::new_command;
+use drawing::data::resting;
 use ranges::verdict;
 use rules::Action;
 use rules::Answer;
 use rules::Drawing;
 use rules::Ended;
 use rules::ORIGIN;
-use rules::Operand;
-use rules::Pen;
 use rules::ROOM_FOR_STEP;
 use rules::Refusal;
 use rules::Session;
@@ -79,16 +78,12 @@ fn close_none(session: Session) -> Ended
         { answer = Answer.Done; written = 0; session = sessionWith Status.Ended (closed (session .drawing)) session } ⌝ }
 {
     let drawing = session.drawing;
-    let point = drawing.pen.point;
     let look = drawing.look;
     let map = drawing.map;
+    let pen = resting(drawing.pen.point);
     let command = new_command(0, ORIGIN);
-    let operand = Operand {
-        bytes: [0u8; 8],
-        count: 0,
-    };
     let drawing = Drawing {
-        pen: Pen { point, operand },
+        pen,
         command,
         look,
         map,

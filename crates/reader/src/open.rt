@@ -1,19 +1,17 @@
 // Opening a page.
+use drawing::closing::new_command;
+use drawing::data::resting;
 use rules::Answer;
 use rules::Bodies;
 use rules::Coding;
 use rules::Colour;
-use rules::Command;
 use rules::Domain;
 use rules::Drawing;
-use rules::Due;
 use rules::Element;
 use rules::Look;
 use rules::Mode;
 use rules::ORIGIN;
 use rules::Opened;
-use rules::Operand;
-use rules::Pen;
 use rules::Refusal;
 use rules::Repertoire;
 use rules::STORE_SIZE;
@@ -52,23 +50,12 @@ fn fresh_look() -> Look
 fn fresh_drawing() -> Drawing
     ensures { λ r. ⌜ r ≡ freshDrawing ⌝ }
 {
+    let pen = resting(ORIGIN);
+    let command = new_command(0, ORIGIN);
     let look = fresh_look();
     Drawing {
-        pen: Pen {
-            point: ORIGIN,
-            operand: Operand {
-                bytes: [0u8; 8],
-                count: 0,
-            },
-        },
-        command: Command {
-            opcode: 0,
-            due: Due::First,
-            vertices: 1,
-            start: ORIGIN,
-            middle: ORIGIN,
-            wrapped: false,
-        },
+        pen,
+        command,
         look,
         map: [0u8; 48],
     }

@@ -4,9 +4,10 @@ use Rattle.rules.specs.declared.Domain.{Domain}
 use Rattle.rules.specs.declared.Look.{Look}
 use Rattle.rules.specs.declared.Pen.{Pen}
 use Rattle.rules.specs.declared.Point.{Point}
+use Rattle.rules.specs.declared.Role.{Role}
 use Rattle.rules.specs.declared.Row.{Row}
 use Rattle.records.specs.declared.Head.{Head}
-use Rattle.rules.specs.Drawing.{rowOf}
+use Rattle.rules.specs.Drawing.{rowOf, roleOf}
 use Rattle.drawing_runs.specs.Run.{standing}
 use Rattle.drawing_runs.specs.Strokes.{penAfter}
 use Rattle.figures.specs.Tracing.{Inks}
@@ -15,10 +16,11 @@ use Rattle.command_runs.proofs.PointLaws.{reaches-point}
 use Rattle.command_runs.proofs.run_commands.Statement.{statement}
 use Rattle.command_runs.proofs.run_commands.Tie as tie
 
--- The row is the open command's, the places are in range, the output keeps its length, the pen lent has room for eight bytes and its point
+-- The row is the open command's, the role that of the operand which is due, the places are in range, the output keeps its length, the pen lent has room for eight bytes and its point
 -- is known, and the bytes so far are a run
-record RunSoFar (pen : Pen) (bytes : List ℕ) (from to : ℕ) (out₀ : List ℕ) (ink : Head) (domain : Domain) (pel : Point) (n at₀ : ℕ) (command₀ : Command) (out : List ℕ) (row : Row) (place at : ℕ) (point : Point) (command : Command) : Type 0 where
+record RunSoFar (pen : Pen) (bytes : List ℕ) (from to : ℕ) (out₀ : List ℕ) (ink : Head) (domain : Domain) (pel : Point) (n at₀ : ℕ) (command₀ : Command) (out : List ℕ) (row : Row) (role : Role) (place at : ℕ) (point : Point) (command : Command) : Type 0 where
   own : row ≡ rowOf (command .opcode)
+  due : role ≡ roleOf (row .pattern) (command .due)
   begun : from ≤ place
   within : place ≤ to
   long : length out ≡ length out₀
@@ -29,21 +31,22 @@ record RunSoFar (pen : Pen) (bytes : List ℕ) (from to : ℕ) (out₀ : List �
       → Reaches bytes from (standing pen command₀ l m at₀ out₀) pen place point command l m at out
 
 abbrev Inv-loop : tie.InvT-loop
-Inv-loop pen bytes from to out₀ at ink domain pel n table row₀ place₀ at₀ point₀ command₀ out row place at′ point command =
-    RunSoFar pen bytes from to out₀ ink domain pel n at₀ command₀ out row place at′ point command
+Inv-loop pen bytes from to out₀ at ink domain pel n table row₀ role₀ place₀ at₀ point₀ command₀ out row role place at′ point command =
+    RunSoFar pen bytes from to out₀ ink domain pel n at₀ command₀ out row role place at′ point command
 
 abbrev μ-loop : tie.MeasureT-loop
-μ-loop pen bytes from to out₀ at ink domain pel n table row₀ place₀ at₀ point₀ command₀ out row place at′ point command = to - place
+μ-loop pen bytes from to out₀ at ink domain pel n table row₀ role₀ place₀ at₀ point₀ command₀ out row role place at′ point command = to - place
 
 loop-holds : tie.Need-loop-holds Inv-loop μ-loop
 loop-holds c =
-    let args· = c .before .before .before .before .before .before .before .before .before .args in
-    let good· = c .before .before .before .before .before .before .before .before .before .good in
-    let row-of· = c .before .row-of in
-    let pre· = c .before .before .before .before .before .before .before .before .before .pre in
+    let args· = c .before .before .before .before .before .before .before .before .before .before .args in
+    let good· = c .before .before .before .before .before .before .before .before .before .before .good in
+    let row-of· = c .before .before .row-of in
+    let pre· = c .before .before .before .before .before .before .before .before .before .before .pre in
+    let role-due· = c .before .role-due in
     -- What is told of the array in the pen lent
     let eight = length-unmapped ℕ (args· .pen .operand .bytes) 8 (good· .0 .1 .1 .1 .0 .1 .1 .0 .1 .0 .1) in
-    record { own = row-of· .ensures; begun = omega arith; within = pre· .3; long = refl; room = pre· .5; eight = eight; stands = after-own (args· .pen) (args· .from - args· .from); runs = λ l m k h t. reaches-none _ _ _ _ l m _ _ }
+    record { own = row-of· .ensures; due = role-due· .ensures; begun = omega arith; within = pre· .3; long = refl; room = pre· .5; eight = eight; stands = after-own (args· .pen) (args· .from - args· .from); runs = λ l m k h t. reaches-none _ _ _ _ l m _ _ }
 
 sub-if1 : tie.Need-sub-if1 Inv-loop μ-loop
 sub-if1 c =
@@ -62,8 +65,8 @@ same-length c =
 
 returns : tie.Need-returns Inv-loop μ-loop
 returns c =
-    let args· = c .before .before .before .before .before .before .before .before .before .before .before .before .before .args in
-    let head-of· = c .before .before .before .before .before .before .before .before .before .before .head-of in
+    let args· = c .before .before .before .before .before .before .before .before .before .before .before .before .before .before .args in
+    let head-of· = c .before .before .before .before .before .before .before .before .before .before .before .head-of in
     let loop· = c .before .before .before .loop in
     let after· = c .after in
     let k : Inks _ _ (args· .look) = record { head = head-of· .ensures; size = refl } in
@@ -71,25 +74,25 @@ returns c =
 
 shared-slice-read-byte : tie.Need-shared-slice-read-byte Inv-loop μ-loop
 shared-slice-read-byte c =
-    let loop-test· = c .before .before .before .loop-test in
+    let loop-test· = c .before .before .loop-test in
     let pre· = c .before .before .before .before .before .before .before .before .before .before .before .before .before .before .pre in
     omega (arith, loop-test· .taken, pre· .4)
 
 sub-after-2 : tie.Need-sub-after-2 Inv-loop μ-loop
 sub-after-2 c =
-    let loop· = c .before .before .before .before .before .before .before .loop in
+    let loop· = c .before .before .before .before .before .before .loop in
     loop· .inv .begun
 
 same-length-2 : tie.Need-same-length-2 Inv-loop μ-loop
 same-length-2 c =
-    let loop· = c .before .before .before .before .before .before .before .before .loop in
+    let loop· = c .before .before .before .before .before .before .before .loop in
     loop· .inv .long
 
 returns-2 : tie.Need-returns-2 Inv-loop μ-loop
 returns-2 c =
     let args· = c .before .before .before .before .before .before .before .before .before .before .before .before .before .before .before .before .before .before .args in
     let head-of· = c .before .before .before .before .before .before .before .before .before .before .before .before .before .before .before .head-of in
-    let loop· = c .before .before .before .before .before .before .before .before .loop in
+    let loop· = c .before .before .before .before .before .before .before .loop in
     let after2· = c .after2 in
     let k : Inks _ _ (args· .look) = record { head = head-of· .ensures; size = refl } in
     reaches-end _ _ _ _ _ _ _ _ _ _ (args· .look) _ _ _ (loop· .inv .begun) (loop· .inv .within) (after2· .ensures) (λ m. loop· .inv .runs (args· .look) m k refl refl)
@@ -104,25 +107,24 @@ open-next-requires : tie.Need-open-next-requires Inv-loop μ-loop
 open-next-requires c κs =
     let opens· = c .before .before .before .before .opens in
     let if3· = c .before .before .before .if3 in
-    let loop· = c .before .before .before .before .before .before .before .before .before .before .loop in
-    let role-due· = c .before .before .before .before .before .before .before .role-due in
-    let if1· = c .before .before .before .before .before .before .before .before .if1 in
+    let loop· = c .before .before .before .before .before .before .before .before .before .loop in
+    let if1· = c .before .before .before .before .before .before .before .if1 in
     let rows· = c .before .before .before .before .before .before .before .before .before .before .before .before .before .rows in
     let row-place· = c .before .before .row-place in
     let if2· = c .before .before .before .before .before .if2 in
     let w = opens· .ensures (not-false (opens· .result) (if3· .left)) in
-    (loop· .inv .own, rw (← role-due· .ensures) (w .0), omega (arith, if1· .left, loop· .inv .room), row-next (rows· .ensures) (row-place· .result) _ _ (row-place· .ensures) (if2· .taken))
+    (loop· .inv .own, rw (← loop· .inv .due) (w .0), omega (arith, if1· .left, loop· .inv .room), row-next (rows· .ensures) (row-place· .result) _ _ (row-place· .ensures) (if2· .taken))
 
 add-place : tie.Need-add-place Inv-loop μ-loop
 add-place c =
     let loop-test· = c .before .before .before .before .before .before .before .before .before .before .before .before .before .before .loop-test in
-    let fits· = c .before .before .before .before .before .before .before .before .before .before .before .before .before .before .before .before .before .before .before .before .before .before .before .before .before .fits in
+    let fits· = c .before .before .before .before .before .before .before .before .before .before .before .before .before .before .before .before .before .before .before .before .before .before .before .before .before .before .fits in
     omega (arith, loop-test· .taken, fits· .to)
 
 leaves-strokes-requires : tie.Need-leaves-strokes-requires Inv-loop μ-loop
 leaves-strokes-requires c κs =
     let loop-test· = c .before .before .before .before .before .before .before .before .before .before .before .before .before .before .loop-test in
-    let pre· = c .before .before .before .before .before .before .before .before .before .before .before .before .before .before .before .before .before .before .before .before .before .before .before .before .before .pre in
+    let pre· = c .before .before .before .before .before .before .before .before .before .before .before .before .before .before .before .before .before .before .before .before .before .before .before .before .before .before .pre in
     (omega (arith, loop-test· .taken), pre· .4)
 
 sub-after-3 : tie.Need-sub-after-3 Inv-loop μ-loop
@@ -132,22 +134,22 @@ sub-after-3 c =
 
 same-length-3 : tie.Need-same-length-3 Inv-loop μ-loop
 same-length-3 c =
-    let open-next· = c .before .before .before .before .before .before .before .open-next in
+    let open-next· = c .before .before .before .before .before .before .before .before .open-next in
     let loop· = c .before .before .before .before .before .before .before .before .before .before .before .before .before .before .before .before .before .before .loop in
     open-next· .kept .1 .1 .1 .1 .1 .1 .1 .0 ∙ loop· .inv .long
 
 returns-3 : tie.Need-returns-3 Inv-loop μ-loop
 returns-3 c =
-    let args· = c .before .before .before .before .before .before .before .before .before .before .before .before .before .before .before .before .before .before .before .before .before .before .before .before .before .before .before .before .args in
-    let head-of· = c .before .before .before .before .before .before .before .before .before .before .before .before .before .before .before .before .before .before .before .before .before .before .before .before .before .head-of in
-    let opens· = c .before .before .before .before .before .before .before .before .before .before .before .before .opens in
-    let if3· = c .before .before .before .before .before .before .before .before .before .before .before .if3 in
+    let args· = c .before .before .before .before .before .before .before .before .before .before .before .before .before .before .before .before .before .before .before .before .before .before .before .before .before .before .before .before .before .args in
+    let head-of· = c .before .before .before .before .before .before .before .before .before .before .before .before .before .before .before .before .before .before .before .before .before .before .before .before .before .before .head-of in
+    let opens· = c .before .before .before .before .before .before .before .before .before .before .before .before .before .opens in
+    let if3· = c .before .before .before .before .before .before .before .before .before .before .before .before .if3 in
     let loop· = c .before .before .before .before .before .before .before .before .before .before .before .before .before .before .before .before .before .before .loop in
     let loop-test· = c .before .before .before .before .before .before .before .before .before .before .before .before .before .before .before .before .before .loop-test in
     let after3· = c .after3 in
-    let pre· = c .before .before .before .before .before .before .before .before .before .before .before .before .before .before .before .before .before .before .before .before .before .before .before .before .before .before .before .before .pre in
+    let pre· = c .before .before .before .before .before .before .before .before .before .before .before .before .before .before .before .before .before .before .before .before .before .before .before .before .before .before .before .before .before .pre in
     let if1· = c .before .before .before .before .before .before .before .before .before .before .before .before .before .before .before .before .if1 in
-    let open-next· = c .before .before .before .before .before .before .before .open-next in
+    let open-next· = c .before .before .before .before .before .before .before .before .open-next in
     let k : Inks _ _ (args· .look) = record { head = head-of· .ensures; size = refl } in
     let w = opens· .ensures (not-false (opens· .result) (if3· .left)) in
     reaches-end _ _ _ _ _ _ _ _ _ _ (args· .look) _ _ _ (omega (arith, loop· .inv .begun)) (omega (arith, loop-test· .taken)) (after3· .ensures) (λ m. reaches-opened _ _ _ _ _ _ _ (args· .look) m _ _ _ _ _ _ _ (loop· .inv .begun) (pre· .0) (loop· .inv .stands) (omega (arith, if1· .left, loop· .inv .room)) (w .1) (λ o z. open-next· .ensures .0 (args· .look) o m k z) (loop· .inv .runs (args· .look) m k refl refl))
@@ -159,69 +161,71 @@ loop-less c =
 
 loop-again : tie.Need-loop-again Inv-loop μ-loop
 loop-again c =
-    let opens· = c .before .before .before .before .before .before .before .before .before .before .before .opens in
-    let if3· = c .before .before .before .before .before .before .before .before .before .before .if3 in
-    let open-next· = c .before .before .before .before .before .before .open-next in
+    let opens· = c .before .before .before .before .before .before .before .before .before .before .before .before .opens in
+    let if3· = c .before .before .before .before .before .before .before .before .before .before .before .if3 in
+    let open-next· = c .before .before .before .before .before .before .before .open-next in
     let loop· = c .before .before .before .before .before .before .before .before .before .before .before .before .before .before .before .before .before .loop in
     let loop-test· = c .before .before .before .before .before .before .before .before .before .before .before .before .before .before .before .before .loop-test in
     let if1· = c .before .before .before .before .before .before .before .before .before .before .before .before .before .before .before .if1 in
-    let args· = c .before .before .before .before .before .before .before .before .before .before .before .before .before .before .before .before .before .before .before .before .before .before .before .before .before .before .before .args in
-    let pre· = c .before .before .before .before .before .before .before .before .before .before .before .before .before .before .before .before .before .before .before .before .before .before .before .before .before .before .before .pre in
-    let w = opens· .ensures (not-false (opens· .result) (if3· .left)) in record { own = open-next· .ensures .1; begun = omega (arith, loop· .inv .begun); within = omega (arith, loop-test· .taken); long = open-next· .kept .1 .1 .1 .1 .1 .1 .1 .0 ∙ loop· .inv .long; room = omega (arith, if1· .left, loop· .inv .room, open-next· .ensures .2, open-next· .kept .1 .1 .1 .1 .1 .1 .1 .0); eight = loop· .inv .eight; stands = after-moved (args· .pen) (loop· .place + 1 - args· .from) (open-next· .result .point) (omega (arith, loop· .inv .begun)); runs = λ l m k h t. reaches-opened _ _ _ _ _ _ _ l m _ _ _ _ _ _ _ (loop· .inv .begun) (pre· .0) (loop· .inv .stands) (omega (arith, if1· .left, loop· .inv .room)) (w .1) (λ o z. open-next· .ensures .0 l o m k z) (loop· .inv .runs l m k h t) }
+    let args· = c .before .before .before .before .before .before .before .before .before .before .before .before .before .before .before .before .before .before .before .before .before .before .before .before .before .before .before .before .args in
+    let pre· = c .before .before .before .before .before .before .before .before .before .before .before .before .before .before .before .before .before .before .before .before .before .before .before .before .before .before .before .before .pre in
+    let role-due2· = c .before .before .role-due2 in
+    let w = opens· .ensures (not-false (opens· .result) (if3· .left)) in
+    record { own = open-next· .ensures .1; due = role-due2· .ensures; begun = omega (arith, loop· .inv .begun); within = omega (arith, loop-test· .taken); long = open-next· .kept .1 .1 .1 .1 .1 .1 .1 .0 ∙ loop· .inv .long; room = omega (arith, if1· .left, loop· .inv .room, open-next· .ensures .2, open-next· .kept .1 .1 .1 .1 .1 .1 .1 .0); eight = loop· .inv .eight; stands = after-moved (args· .pen) (loop· .place + 1 - args· .from) (open-next· .result .point) (omega (arith, loop· .inv .begun)); runs = λ l m k h t. reaches-opened _ _ _ _ _ _ _ l m _ _ _ _ _ _ _ (loop· .inv .begun) (pre· .0) (loop· .inv .stands) (omega (arith, if1· .left, loop· .inv .room)) (w .1) (λ o z. open-next· .ensures .0 l o m k z) (loop· .inv .runs l m k h t) }
 
 point-due-requires : tie.Need-point-due-requires Inv-loop μ-loop
 point-due-requires c κs =
     let args· = c .before .before .before .before .before .before .before .before .before .before .before .before .before .before .before .args in
     let pre· = c .before .before .before .before .before .before .before .before .before .before .before .before .before .before .before .pre in
-    let loop· = c .before .before .before .before .before .loop in
+    let loop· = c .before .before .before .before .loop in
     (multi-range (args· .look .domain) (pre· .1) .1, loop· .inv .within, pre· .4)
 
 sub-drops : tie.Need-sub-drops Inv-loop μ-loop
 sub-drops c =
-    let loop· = c .before .before .before .before .before .before .before .before .loop in
+    let loop· = c .before .before .before .before .before .before .before .loop in
     loop· .inv .begun
 
 sub-after-4 : tie.Need-sub-after-4 Inv-loop μ-loop
 sub-after-4 c =
-    let loop· = c .before .before .before .before .before .before .before .before .before .before .loop in
+    let loop· = c .before .before .before .before .before .before .before .before .before .loop in
     loop· .inv .begun
 
 same-length-4 : tie.Need-same-length-4 Inv-loop μ-loop
 same-length-4 c =
-    let loop· = c .before .before .before .before .before .before .before .before .before .before .before .loop in
+    let loop· = c .before .before .before .before .before .before .before .before .before .before .loop in
     loop· .inv .long
 
 returns-4 : tie.Need-returns-4 Inv-loop μ-loop
 returns-4 c =
     let args· = c .before .before .before .before .before .before .before .before .before .before .before .before .before .before .before .before .before .before .before .before .before .args in
     let head-of· = c .before .before .before .before .before .before .before .before .before .before .before .before .before .before .before .before .before .before .head-of in
-    let loop· = c .before .before .before .before .before .before .before .before .before .before .before .loop in
+    let loop· = c .before .before .before .before .before .before .before .before .before .before .loop in
     let after4· = c .after4 in
     let k : Inks _ _ (args· .look) = record { head = head-of· .ensures; size = refl } in
     reaches-end _ _ _ _ _ _ _ _ _ _ (args· .look) _ _ _ (loop· .inv .begun) (loop· .inv .within) (after4· .ensures) (λ m. loop· .inv .runs (args· .look) m k refl refl)
 
 add-place-2 : tie.Need-add-place-2 Inv-loop μ-loop
 add-place-2 c =
-    let loop-test· = c .before .before .before .before .before .before .before .before .before .loop-test in
+    let loop-test· = c .before .before .before .before .before .before .before .before .loop-test in
     let fits· = c .before .before .before .before .before .before .before .before .before .before .before .before .before .before .before .before .before .before .before .before .fits in
     omega (arith, loop-test· .taken, fits· .to)
 
 loop-less-2 : tie.Need-loop-less-2 Inv-loop μ-loop
 loop-less-2 c =
-    let loop-test· = c .before .before .before .before .before .before .before .before .before .loop-test in
+    let loop-test· = c .before .before .before .before .before .before .before .before .loop-test in
     omega (arith, loop-test· .taken)
 
 loop-again-2 : tie.Need-loop-again-2 Inv-loop μ-loop
 loop-again-2 c =
     let drops· = c .before .drops in
     let if5· = c .if5 in
-    let loop· = c .before .before .before .before .before .before .before .before .before .before .loop in
-    let loop-test· = c .before .before .before .before .before .before .before .before .before .loop-test in
+    let loop· = c .before .before .before .before .before .before .before .before .before .loop in
+    let loop-test· = c .before .before .before .before .before .before .before .before .loop-test in
     let args· = c .before .before .before .before .before .before .before .before .before .before .before .before .before .before .before .before .before .before .before .before .args in
-    let if1· = c .before .before .before .before .before .before .before .before .if1 in
+    let if1· = c .before .before .before .before .before .before .before .if1 in
     let if2· = c .before .before .before .before .before .if2 in
-    let role-due· = c .before .before .before .before .before .before .before .role-due in
-    let w = drops· .ensures (not-false (drops· .result) (if5· .left)) in record { own = loop· .inv .own; begun = omega (arith, loop· .inv .begun); within = omega (arith, loop-test· .taken); long = loop· .inv .long; room = loop· .inv .room; eight = loop· .inv .eight; stands = after-moved (args· .pen) (loop· .place + 1 - args· .from) (loop· .point) (omega (arith, loop· .inv .begun)); runs = λ l m k h t. reaches-dropped _ _ _ _ _ _ _ l m _ _ _ (w .2) (omega (arith, if1· .left, loop· .inv .room)) (omega (arith, if2· .left)) (w .1) (loop· .inv .own) (sym (role-due· .ensures) ∙ w .0) (loop· .inv .runs l m k h t) }
+    let w = drops· .ensures (not-false (drops· .result) (if5· .left)) in
+    record { own = loop· .inv .own; due = loop· .inv .due; begun = omega (arith, loop· .inv .begun); within = omega (arith, loop-test· .taken); long = loop· .inv .long; room = loop· .inv .room; eight = loop· .inv .eight; stands = after-moved (args· .pen) (loop· .place + 1 - args· .from) (loop· .point) (omega (arith, loop· .inv .begun)); runs = λ l m k h t. reaches-dropped _ _ _ _ _ _ _ l m _ _ _ (w .2) (omega (arith, if1· .left, loop· .inv .room)) (omega (arith, if2· .left)) (w .1) (loop· .inv .own) (sym (loop· .inv .due) ∙ w .0) (loop· .inv .runs l m k h t) }
 
 trace-requires : tie.Need-trace-requires Inv-loop μ-loop
 trace-requires c κs =
@@ -231,42 +235,43 @@ trace-requires c κs =
 
 put-figure-requires : tie.Need-put-figure-requires Inv-loop μ-loop
 put-figure-requires c κs =
-    let if1· = c .before .before .before .before .before .before .before .before .before .before .if1 in
-    let loop· = c .before .before .before .before .before .before .before .before .before .before .before .before .loop in
+    let if1· = c .before .before .before .before .before .before .before .before .before .if1 in
+    let loop· = c .before .before .before .before .before .before .before .before .before .before .before .loop in
     omega (arith, if1· .left, loop· .inv .room)
 
 add-place-3 : tie.Need-add-place-3 Inv-loop μ-loop
 add-place-3 c =
-    let point-due· = c .before .before .before .before .before .before .before .before .before .before .before .point-due in
-    let whole· = c .before .before .before .before .before .before .before .before .before .whole in
-    let fits· = c .before .before .before .before .before .before .before .before .before .before .before .before .before .before .before .before .before .before .before .before .before .before .before .before .before .before .before .fits in
+    let point-due· = c .before .before .before .before .before .before .before .before .before .before .before .before .point-due in
+    let whole· = c .before .before .before .before .before .before .before .before .before .before .whole in
+    let fits· = c .before .before .before .before .before .before .before .before .before .before .before .before .before .before .before .before .before .before .before .before .before .before .before .before .before .before .before .before .fits in
     let w = point-due· .ensures _ (whole· .given .1) in
     omega (arith, w .1, fits· .to)
 
 loop-less-3 : tie.Need-loop-less-3 Inv-loop μ-loop
 loop-less-3 c =
-    let point-due· = c .before .before .before .before .before .before .before .before .before .before .before .point-due in
-    let whole· = c .before .before .before .before .before .before .before .before .before .whole in
-    let args· = c .before .before .before .before .before .before .before .before .before .before .before .before .before .before .before .before .before .before .before .before .before .before .before .before .before .before .before .args in
-    let pre· = c .before .before .before .before .before .before .before .before .before .before .before .before .before .before .before .before .before .before .before .before .before .before .before .before .before .before .before .pre in
+    let point-due· = c .before .before .before .before .before .before .before .before .before .before .before .before .point-due in
+    let whole· = c .before .before .before .before .before .before .before .before .before .before .whole in
+    let args· = c .before .before .before .before .before .before .before .before .before .before .before .before .before .before .before .before .before .before .before .before .before .before .before .before .before .before .before .before .args in
+    let pre· = c .before .before .before .before .before .before .before .before .before .before .before .before .before .before .before .before .before .before .before .before .before .before .before .before .before .before .before .before .pre in
     let w = point-due· .ensures _ (whole· .given .1) in
     omega (arith, w .1, multi-range (args· .look .domain) (pre· .1) .0)
 
 loop-again-3 : tie.Need-loop-again-3 Inv-loop μ-loop
 loop-again-3 c =
-    let args· = c .before .before .before .before .before .before .before .before .before .before .before .before .before .before .before .before .before .before .before .before .before .before .before .before .before .before .before .args in
-    let pre· = c .before .before .before .before .before .before .before .before .before .before .before .before .before .before .before .before .before .before .before .before .before .before .before .before .before .before .before .pre in
-    let point-due· = c .before .before .before .before .before .before .before .before .before .before .before .point-due in
-    let whole· = c .before .before .before .before .before .before .before .before .before .whole in
+    let args· = c .before .before .before .before .before .before .before .before .before .before .before .before .before .before .before .before .before .before .before .before .before .before .before .before .before .before .before .before .args in
+    let pre· = c .before .before .before .before .before .before .before .before .before .before .before .before .before .before .before .before .before .before .before .before .before .before .before .before .before .before .before .before .pre in
+    let point-due· = c .before .before .before .before .before .before .before .before .before .before .before .before .point-due in
+    let whole· = c .before .before .before .before .before .before .before .before .before .before .whole in
     let loop· = c .before .before .before .before .before .before .before .before .before .before .before .before .before .before .before .before .before .loop in
-    let with-due· = c .with-due in
-    let trace· = c .before .before .before .before .before .before .trace in
-    let put-figure· = c .before .before .before .before .put-figure in
+    let with-due· = c .before .with-due in
+    let trace· = c .before .before .before .before .before .before .before .trace in
+    let put-figure· = c .before .before .before .before .before .put-figure in
     let if1· = c .before .before .before .before .before .before .before .before .before .before .before .before .before .before .before .if1 in
-    let role-due· = c .before .before .before .before .before .before .before .before .before .before .before .before .before .before .role-due in
-    let target· = c .before .before .before .before .before .before .before .target in
+    let target· = c .before .before .before .before .before .before .before .before .target in
+    let role-due3· = c .role-due3 in
     let r = multi-range (args· .look .domain) (pre· .1) in
-    let w = point-due· .ensures _ (whole· .given .1) in record { own = loop· .inv .own ∙ ap rowOf (sym (ap (λ (x : Command). x .opcode) (with-due· .ensures) ∙ trace· .ensures .1)); begun = omega (arith, loop· .inv .begun); within = w .1; long = put-figure· .kept .1 .1 .1 .0 ∙ loop· .inv .long; room = omega (arith, if1· .left, loop· .inv .room, put-figure· .ensures .1, put-figure· .kept .1 .1 .1 .0); eight = loop· .inv .eight; stands = after-moved (args· .pen) (loop· .place + args· .look .domain .multi - args· .from) (trace· .result .point) (omega (arith, loop· .inv .begun, r .0)); runs = λ l m k h t. reaches-point _ _ _ _ _ _ _ l m _ _ _ _ _ _ _ _ _ _ _ _ _ (loop· .inv .begun) (pre· .0) (loop· .inv .eight) (loop· .inv .stands) (loop· .inv .own) (role-due· .ensures) (w .0) (omega (arith, if1· .left, loop· .inv .room)) h (r .0) (r .1) (omega (arith, w .1, pre· .4)) t (w .2) (λ bs a e. trace· .ensures .0 l _ bs (target· .ensures .0) (target· .ensures .1) e a m) (put-figure· .ensures .0 l k) (with-due· .ensures) (loop· .inv .runs l m k h t) }
+    let w = point-due· .ensures _ (whole· .given .1) in
+    record { own = loop· .inv .own ∙ ap rowOf (sym (ap (λ (x : Command). x .opcode) (with-due· .ensures) ∙ trace· .ensures .1)); due = role-due3· .ensures; begun = omega (arith, loop· .inv .begun); within = w .1; long = put-figure· .kept .1 .1 .1 .0 ∙ loop· .inv .long; room = omega (arith, if1· .left, loop· .inv .room, put-figure· .ensures .1, put-figure· .kept .1 .1 .1 .0); eight = loop· .inv .eight; stands = after-moved (args· .pen) (loop· .place + args· .look .domain .multi - args· .from) (trace· .result .point) (omega (arith, loop· .inv .begun, r .0)); runs = λ l m k h t. reaches-point _ _ _ _ _ _ _ l m _ _ _ _ _ _ _ _ _ _ _ _ _ (loop· .inv .begun) (pre· .0) (loop· .inv .eight) (loop· .inv .stands) (loop· .inv .own) (loop· .inv .due) (w .0) (omega (arith, if1· .left, loop· .inv .room)) h (r .0) (r .1) (omega (arith, w .1, pre· .4)) t (w .2) (λ bs a e. trace· .ensures .0 l _ bs (target· .ensures .0) (target· .ensures .1) e a m) (put-figure· .ensures .0 l k) (with-due· .ensures) (loop· .inv .runs l m k h t) }
 
 sub-after-5 : tie.Need-sub-after-5 Inv-loop μ-loop
 sub-after-5 c =
@@ -280,8 +285,8 @@ same-length-5 c =
 
 returns-5 : tie.Need-returns-5 Inv-loop μ-loop
 returns-5 c =
-    let args· = c .before .before .before .before .before .before .before .before .before .before .before .before .args in
-    let head-of· = c .before .before .before .before .before .before .before .before .before .head-of in
+    let args· = c .before .before .before .before .before .before .before .before .before .before .before .before .before .args in
+    let head-of· = c .before .before .before .before .before .before .before .before .before .before .head-of in
     let loop· = c .before .before .loop in
     let after5· = c .after5 in
     let k : Inks _ _ (args· .look) = record { head = head-of· .ensures; size = refl } in
@@ -297,13 +302,13 @@ run-commands-spec =
     (λ c. search needs)
     (λ c κs. search needs)
     (λ c κs. search needs)
+    (λ c κs. search needs)
     loop-holds
     sub-if1
     sub-after
     (λ c κs. search needs)
     same-length
     returns
-    (λ c κs. search needs)
     shared-slice-read-byte
     (λ c κs. search needs)
     sub-after-2
@@ -314,6 +319,7 @@ run-commands-spec =
     (λ c. search needs)
     array-copy-out-next
     open-next-requires
+    (λ c κs. search needs)
     add-place
     leaves-strokes-requires
     sub-after-3
@@ -337,6 +343,7 @@ run-commands-spec =
     (λ c κs. search needs)
     trace-requires
     put-figure-requires
+    (λ c κs. search needs)
     (λ c κs. search needs)
     add-place-3
     loop-less-3
