@@ -6,8 +6,8 @@ use crate::operand::{colour_bits, is_data, Layout};
 use crate::record::{fields, fill, header, Kind, Output, Point, CLOSING, WRAPPED};
 use crate::Number;
 
-/// Vertices of a polygon, its start included.
-const MOST_VERTICES: u16 = 256;
+/// Vertices of a polygon, its start included (02, 1/13).
+pub(crate) const MOST_VERTICES: u16 = 412;
 
 /// Domain, colours, drawing point and the open command.
 #[derive(Clone, Debug, PartialEq, Eq)]
@@ -287,7 +287,7 @@ impl Drawing {
         }
     }
 
-    /// Whether one more displacement would be vertex 257.
+    /// Whether one more displacement would be vertex 413.
     #[inline]
     fn at_vertex_limit(&self) -> bool {
         self.role == Role::Edge && self.vertices == MOST_VERTICES

@@ -5,6 +5,7 @@
 //! so that most items mean what they are meant to; where the account is lost
 //! (after a call that shifts) it designates anew.
 
+use crate::drawing::MOST_VERTICES;
 use crate::listing::GREATEST_BUDGET;
 use crate::random::Random;
 use crate::{end, feed, open, Number, STORE};
@@ -216,6 +217,8 @@ const CODING: &[Item] = &[
 const STORE_ITEMS: &[Item] = &[DefineMany, Define, Define, Call, Call, Command, Control];
 const POLYGONS: &[Item] = &[
     LongPolygon,
+    LongPolygon,
+    LongPolygon,
     Polygon,
     Polygon,
     Interrupted,
@@ -314,7 +317,7 @@ impl Generator {
         use Theme::*;
         self.random.pick(&[
             Everything, Everything, Everything, Everything, Drawing, Drawing, Drawing, Macros,
-            Macros, Macros, Coding, Coding, Store, Polygons, Noise,
+            Macros, Macros, Coding, Coding, Store, Polygons, Polygons, Noise,
         ])
     }
 
@@ -550,15 +553,19 @@ impl Generator {
         self.operands(count);
     }
 
-    /// A polygon of about the most vertices, mostly with short operands.
+    /// A polygon of about as many vertices as a byte counts, or of about the most, seldom more; mostly with short operands.
     fn long_polygon(&mut self) {
         let length = self.random.pick(&[1, 1, 1, 2, 3]);
         self.set_lengths(length);
         let opcode = self.random.byte(0x34, 0x37);
-        let count = self.random.pick(&[200, 250, 253, 254, 255]);
+        let vertices = match self.random.below(8) {
+            0..=3 => self.random.range(255, 260),
+            4..=6 => self.random.range(410, MOST_VERTICES.into()),
+            _ => self.random.range(usize::from(MOST_VERTICES) + 1, 415),
+        };
         self.put(opcode);
         let start = usize::from(opcode >= 0x36);
-        self.data((start + count) * length);
+        self.data((start + vertices - 1) * length);
     }
 
     /// DOMAIN with a multi-value length, in two dimensions.
@@ -1104,7 +1111,7 @@ impl Generator {
         let opcode = self.random.byte(0x34, 0x37);
         self.put(opcode);
         let start = usize::from(opcode >= 0x36);
-        let bytes = (start + 256) * length;
+        let bytes = (start + usize::from(MOST_VERTICES)) * length;
         let cut = self.random.below(length);
         self.data(bytes - cut);
         if self.random.chance(60) {
@@ -1151,6 +1158,7 @@ fn items_of(theme: Theme) -> &'static [Item] {
 #[cfg(test)]
 mod tests {
     use super::*;
+    use crate::listing::listing;
 
     #[test]
     fn the_seed_and_number_decide_the_page() {
@@ -1168,6 +1176,34 @@ mod tests {
         assert!(met[0] > 1500, "{met:?}");
         for refusal in 3..=10 {
             assert!(met[refusal] > 0, "{met:?}");
+        }
+    }
+
+    /// The vertices of a page's longest polygon, counted by its records.
+    fn most_vertices(page: &[u8]) -> usize {
+        let text = String::from_utf8(listing(page)).unwrap();
+        let (mut vertices, mut most) = (1, 1);
+        for line in text.lines() {
+            vertices = match ["5 0 ", "5 1 ", "5 2 ", "5 3 "].contains(&&line[..4]) {
+                true => vertices + 1,
+                false => 1,
+            };
+            most = most.max(vertices);
+        }
+        most
+    }
+
+    #[test]
+    fn long_polygons_are_common() {
+        let most: Vec<usize> = (0..2000)
+            .map(|number| most_vertices(&page(1, number)))
+            .collect();
+        for range in [255..=260, 410..=412] {
+            let pages = most
+                .iter()
+                .filter(|vertices| range.contains(*vertices))
+                .count();
+            assert!(pages > 40, "{pages} pages of {range:?} vertices");
         }
     }
 }

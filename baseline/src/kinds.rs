@@ -1,5 +1,6 @@
 //! Benchmark pages: each of one kind, of any size.
 
+use crate::drawing::MOST_VERTICES;
 use crate::random::Random;
 
 /// What a benchmark page consists of.
@@ -19,10 +20,12 @@ pub enum BenchKind {
     Definitions,
     /// Short commands of all sorts.
     Mixed,
+    /// Polygons of the most vertices.
+    Polygons,
 }
 
 /// The kinds and their names.
-pub const KINDS: [(&str, BenchKind); 7] = [
+pub const KINDS: [(&str, BenchKind); 8] = [
     ("point-set", BenchKind::PointSet),
     ("line", BenchKind::Line),
     ("characters", BenchKind::Characters),
@@ -30,6 +33,7 @@ pub const KINDS: [(&str, BenchKind); 7] = [
     ("calls", BenchKind::Calls),
     ("definitions", BenchKind::Definitions),
     ("mixed", BenchKind::Mixed),
+    ("polygons", BenchKind::Polygons),
 ];
 
 const ESC: u8 = 0x1B;
@@ -56,7 +60,7 @@ fn beginning(kind: BenchKind) -> Vec<u8> {
         BenchKind::Characters | BenchKind::Definitions => Vec::new(),
         BenchKind::Nested => nested_bodies(),
         BenchKind::Calls => MACRO_TO_G0.to_vec(),
-        BenchKind::Mixed => vec![SHIFT_OUT],
+        BenchKind::Mixed | BenchKind::Polygons => vec![SHIFT_OUT],
     }
 }
 
@@ -94,6 +98,12 @@ fn item(kind: BenchKind, random: &mut Random, page: &mut Vec<u8>) {
             if random.chance(10) {
                 page.push(random.byte(0x07, 0x0D));
             }
+        }
+        BenchKind::Polygons => {
+            let opcode = random.byte(0x34, 0x37);
+            page.push(opcode);
+            let start = usize::from(opcode >= 0x36);
+            data(3 * (start + usize::from(MOST_VERTICES) - 1), random, page);
         }
     }
 }

@@ -47,7 +47,7 @@ pub enum Number {
     StoreFull = 7,
     /// A ninth nested body.
     TooDeep = 8,
-    /// Vertex 257.
+    /// Vertex 413.
     TooManyVertices = 9,
     /// End inside an escape sequence or definition.
     Unfinished = 10,

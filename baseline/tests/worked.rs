@@ -75,8 +75,8 @@ fn most_vertices() {
         page.resize(4 + displacements, 73);
         lines(&page)
     };
-    assert_eq!(polygon(255).last().unwrap(), "end 0 259");
-    assert_eq!(polygon(256).last().unwrap(), "end 9 259");
+    assert_eq!(polygon(411).last().unwrap(), "end 0 415");
+    assert_eq!(polygon(412).last().unwrap(), "end 9 415");
 }
 
 #[test]

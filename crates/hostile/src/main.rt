@@ -92,7 +92,8 @@ fn drawing_fields(session: Session) {
     both(b"foreground-16", with_addresses(session, 16, 0));
     both(b"background-16", with_addresses(session, 0, 16));
     both(b"vertices-0", with_command(session, 0, 0));
-    both(b"vertices-257", with_command(session, 0, 257));
+    both(b"vertices-412", with_command(session, 0, 412));
+    both(b"vertices-413", with_command(session, 0, 413));
     both(b"opcode-1", with_command(session, 1, 1));
     both(b"opcode-31", with_command(session, 31, 1));
     both(b"opcode-64", with_command(session, 64, 1));

@@ -1,6 +1,6 @@
-// Reads stored pages, each undivided and cut into pieces of several sizes, with output buffers of several sizes, and compares
-// the text with the stored listing. The file `index` names the groups, a folder each, and `index` in a folder its pages.
-// A line is printed for each group, one for all, and one for each reading that differs: page, cut and buffer.
+// Reads stored pages, each undivided and cut into pieces of several sizes, with output buffers of several sizes, then cut in two at
+// each of its places, and compares the text with the stored listing. The file `index` names the groups, a folder each, and `index`
+// in a folder its pages. A line is printed for each group, one for all, and one for each reading that differs: page, cut and buffer.
 use demands::draw_cuts;
 use libc::STDOUT_FILENO;
 use listing::least;
@@ -95,30 +95,34 @@ fn lists(listing: &[u8], records: &[u8], number: u8, steps: u32) -> bool {
     met == listing.len()
 }
 
-// Whether a page, read in pieces of `cut` bytes into buffers of `buffer` bytes, gives its listing. A call for each piece and for
-// each record is enough, since one that answers full wrote a record. Were they too few, or had the records no room, the last answer
-// would be full, which no listing has.
-fn agrees(page: &[u8], listing: &[u8], cut: usize, buffer: usize) -> bool
-    requires { ⌜ 0 < cut ⌝ }
-{
+// Whether a page, read by calls of these lengths into these rooms, gives its listing.
+fn gives(page: &[u8], listing: &[u8], lengths: &[usize], rooms: &[usize]) -> bool {
     let mut store = [0u8; STORE_SIZE];
-    let lengths = [cut; CALLS];
-    let rooms = [buffer; CALLS];
     let mut out = [0u8; OUTPUT_SIZE];
-    let pieces = least(page.len() / cut, PAGE_SIZE);
-    let calls = pieces + least(listing.len() / LINE_SIZE, RECORDS) + 1;
-    let drawn = draw_cuts(
-        u32::MAX,
-        &mut store,
-        page,
-        &lengths[..calls],
-        &rooms[..calls],
-        &mut out,
-    );
+    let drawn = draw_cuts(u32::MAX, &mut store, page, lengths, rooms, &mut out);
     let answer = drawn.answer;
     let session = drawn.session;
     let written = drawn.written;
     lists(listing, &out[..written], number_of(answer), session.steps)
+}
+
+// Whether it does so in pieces of `cut` bytes and buffers of `buffer` bytes. A call for each piece and for each record is enough,
+// since one that answers full wrote a record. Were they too few, or had the records no room, the last answer would be full, which
+// no listing has.
+fn agrees(page: &[u8], listing: &[u8], cut: usize, buffer: usize) -> bool
+    requires { ⌜ 0 < cut ⌝ }
+{
+    let lengths = [cut; CALLS];
+    let rooms = [buffer; CALLS];
+    let pieces = least(page.len() / cut, PAGE_SIZE);
+    let calls = pieces + least(listing.len() / LINE_SIZE, RECORDS) + 1;
+    gives(page, listing, &lengths[..calls], &rooms[..calls])
+}
+
+fn print_differs(name: &[u8], how: &[u8], bytes: usize) {
+    io::write_all(STDOUT_FILENO, name);
+    io::write_all(STDOUT_FILENO, how);
+    io::print_decimal(STDOUT_FILENO, bytes as u64);
 }
 
 fn compare(name: &[u8], page: &[u8], listing: &[u8], cut: usize, buffer: usize)
@@ -127,12 +131,29 @@ fn compare(name: &[u8], page: &[u8], listing: &[u8], cut: usize, buffer: usize)
     if agrees(page, listing, cut, buffer) {
         return;
     }
-    io::write_all(STDOUT_FILENO, name);
-    io::write_all(STDOUT_FILENO, b" differs: cut ");
-    io::print_decimal(STDOUT_FILENO, cut as u64);
+    print_differs(name, b" differs: cut ", cut);
     io::write_all(STDOUT_FILENO, b", buffer ");
     io::print_decimal(STDOUT_FILENO, buffer as u64);
     io::write_all(STDOUT_FILENO, b"\n");
+}
+
+// The page in two pieces, the first of so many bytes, with room for all its records.
+fn compare_place(name: &[u8], page: &[u8], listing: &[u8], place: usize) {
+    let lengths = [place, PAGE_SIZE];
+    let rooms = [OUTPUT_SIZE; 2];
+    if gives(page, listing, &lengths, &rooms) {
+        return;
+    }
+    print_differs(name, b" differs: cut at ", place);
+    io::write_all(STDOUT_FILENO, b"\n");
+}
+
+fn compare_places(name: &[u8], page: &[u8], listing: &[u8]) {
+    let mut place: usize = 0;
+    while place < page.len() {
+        compare_place(name, page, listing, place);
+        place += 1;
+    }
 }
 
 fn compare_buffers(name: &[u8], page: &[u8], listing: &[u8], cut: usize)
@@ -195,6 +216,7 @@ fn compare_page(group: &[u8], name: &[u8]) {
     let mut listing = [0u8; LISTING_SIZE];
     let m = load(group, name, b".listing", &mut listing);
     compare_cuts(name, &page[..n], &listing[..m]);
+    compare_places(name, &page[..n], &listing[..m]);
 }
 
 fn compare_pages(group: &[u8], index: &[u8]) -> u64 {

@@ -1,4 +1,4 @@
--- The numbers of document 01 that more than one definition needs; src/lib.rt has them as constants of the same names
+-- The numbers of documents 01 and 02 that more than one definition needs; src/lib.rt has them as constants of the same names
 use Prim.Native.Nat.{ℕ}
 use Rattle.rules.specs.Types.{Point}
 
@@ -26,9 +26,10 @@ recordSize = 40
 abbrev pub roomForStep : ℕ
 roomForStep = 120
 
--- POLYGON: "Start included, at most 256 vertices." 9: "vertex 257"
+-- 02, 1/13: "The widest polygon on any registered page has 412 vertices, its start counted, .. That figure becomes the limit in place
+-- of 256."
 abbrev pub mostVertices : ℕ
-mostVertices = 256
+mostVertices = 412
 
 -- "drawing point (0, 0)"
 abbrev pub origin : Point
