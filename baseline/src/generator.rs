@@ -553,7 +553,8 @@ impl Generator {
         self.operands(count);
     }
 
-    /// A polygon of about as many vertices as a byte counts, or of about the most, seldom more; mostly with short operands.
+    /// A polygon of about as many vertices as a byte counts, or of about the
+    /// most, seldom more; mostly with short operands.
     fn long_polygon(&mut self) {
         let length = self.random.pick(&[1, 1, 1, 2, 3]);
         self.set_lengths(length);

@@ -16,8 +16,8 @@ use Rattle.command_runs.proofs.PointLaws.{reaches-point}
 use Rattle.command_runs.proofs.run_commands.Statement.{statement}
 use Rattle.command_runs.proofs.run_commands.Tie as tie
 
--- The row is the open command's, the role that of the operand which is due, the places are in range, the output keeps its length, the pen lent has room for eight bytes and its point
--- is known, and the bytes so far are a run
+-- The row is the open command's, the role that of the operand which is due, the places are in range, the output keeps its length, the
+-- pen lent has room for eight bytes and its point is known, and the bytes so far are a run
 record RunSoFar (pen : Pen) (bytes : List ℕ) (from to : ℕ) (out₀ : List ℕ) (ink : Head) (domain : Domain) (pel : Point) (n at₀ : ℕ) (command₀ : Command) (out : List ℕ) (row : Row) (role : Role) (place at : ℕ) (point : Point) (command : Command) : Type 0 where
   own : row ≡ rowOf (command .opcode)
   due : role ≡ roleOf (row .pattern) (command .due)
@@ -46,7 +46,17 @@ loop-holds c =
     let role-due· = c .before .role-due in
     -- What is told of the array in the pen lent
     let eight = length-unmapped ℕ (args· .pen .operand .bytes) 8 (good· .0 .1 .1 .1 .0 .1 .1 .0 .1 .0 .1) in
-    record { own = row-of· .ensures; due = role-due· .ensures; begun = omega arith; within = pre· .3; long = refl; room = pre· .5; eight = eight; stands = after-own (args· .pen) (args· .from - args· .from); runs = λ l m k h t. reaches-none _ _ _ _ l m _ _ }
+    record {
+      own = row-of· .ensures;
+      due = role-due· .ensures;
+      begun = omega arith;
+      within = pre· .3;
+      long = refl;
+      room = pre· .5;
+      eight = eight;
+      stands = after-own (args· .pen) (args· .from - args· .from);
+      runs = λ l m k h t. reaches-none _ _ _ _ l m _ _;
+    }
 
 sub-if1 : tie.Need-sub-if1 Inv-loop μ-loop
 sub-if1 c =
@@ -171,7 +181,17 @@ loop-again c =
     let pre· = c .before .before .before .before .before .before .before .before .before .before .before .before .before .before .before .before .before .before .before .before .before .before .before .before .before .before .before .before .pre in
     let role-due2· = c .before .before .role-due2 in
     let w = opens· .ensures (not-false (opens· .result) (if3· .left)) in
-    record { own = open-next· .ensures .1; due = role-due2· .ensures; begun = omega (arith, loop· .inv .begun); within = omega (arith, loop-test· .taken); long = open-next· .kept .1 .1 .1 .1 .1 .1 .1 .0 ∙ loop· .inv .long; room = omega (arith, if1· .left, loop· .inv .room, open-next· .ensures .2, open-next· .kept .1 .1 .1 .1 .1 .1 .1 .0); eight = loop· .inv .eight; stands = after-moved (args· .pen) (loop· .place + 1 - args· .from) (open-next· .result .point) (omega (arith, loop· .inv .begun)); runs = λ l m k h t. reaches-opened _ _ _ _ _ _ _ l m _ _ _ _ _ _ _ (loop· .inv .begun) (pre· .0) (loop· .inv .stands) (omega (arith, if1· .left, loop· .inv .room)) (w .1) (λ o z. open-next· .ensures .0 l o m k z) (loop· .inv .runs l m k h t) }
+    record {
+      own = open-next· .ensures .1;
+      due = role-due2· .ensures;
+      begun = omega (arith, loop· .inv .begun);
+      within = omega (arith, loop-test· .taken);
+      long = open-next· .kept .1 .1 .1 .1 .1 .1 .1 .0 ∙ loop· .inv .long;
+      room = omega (arith, if1· .left, loop· .inv .room, open-next· .ensures .2, open-next· .kept .1 .1 .1 .1 .1 .1 .1 .0);
+      eight = loop· .inv .eight;
+      stands = after-moved (args· .pen) (loop· .place + 1 - args· .from) (open-next· .result .point) (omega (arith, loop· .inv .begun));
+      runs = λ l m k h t. reaches-opened _ _ _ _ _ _ _ l m _ _ _ _ _ _ _ (loop· .inv .begun) (pre· .0) (loop· .inv .stands) (omega (arith, if1· .left, loop· .inv .room)) (w .1) (λ o z. open-next· .ensures .0 l o m k z) (loop· .inv .runs l m k h t);
+    }
 
 point-due-requires : tie.Need-point-due-requires Inv-loop μ-loop
 point-due-requires c κs =
@@ -225,7 +245,17 @@ loop-again-2 c =
     let if1· = c .before .before .before .before .before .before .before .if1 in
     let if2· = c .before .before .before .before .before .if2 in
     let w = drops· .ensures (not-false (drops· .result) (if5· .left)) in
-    record { own = loop· .inv .own; due = loop· .inv .due; begun = omega (arith, loop· .inv .begun); within = omega (arith, loop-test· .taken); long = loop· .inv .long; room = loop· .inv .room; eight = loop· .inv .eight; stands = after-moved (args· .pen) (loop· .place + 1 - args· .from) (loop· .point) (omega (arith, loop· .inv .begun)); runs = λ l m k h t. reaches-dropped _ _ _ _ _ _ _ l m _ _ _ (w .2) (omega (arith, if1· .left, loop· .inv .room)) (omega (arith, if2· .left)) (w .1) (loop· .inv .own) (sym (loop· .inv .due) ∙ w .0) (loop· .inv .runs l m k h t) }
+    record {
+      own = loop· .inv .own;
+      due = loop· .inv .due;
+      begun = omega (arith, loop· .inv .begun);
+      within = omega (arith, loop-test· .taken);
+      long = loop· .inv .long;
+      room = loop· .inv .room;
+      eight = loop· .inv .eight;
+      stands = after-moved (args· .pen) (loop· .place + 1 - args· .from) (loop· .point) (omega (arith, loop· .inv .begun));
+      runs = λ l m k h t. reaches-dropped _ _ _ _ _ _ _ l m _ _ _ (w .2) (omega (arith, if1· .left, loop· .inv .room)) (omega (arith, if2· .left)) (w .1) (loop· .inv .own) (sym (loop· .inv .due) ∙ w .0) (loop· .inv .runs l m k h t);
+    }
 
 trace-requires : tie.Need-trace-requires Inv-loop μ-loop
 trace-requires c κs =
@@ -271,7 +301,17 @@ loop-again-3 c =
     let role-due3· = c .role-due3 in
     let r = multi-range (args· .look .domain) (pre· .1) in
     let w = point-due· .ensures _ (whole· .given .1) in
-    record { own = loop· .inv .own ∙ ap rowOf (sym (ap (λ (x : Command). x .opcode) (with-due· .ensures) ∙ trace· .ensures .1)); due = role-due3· .ensures; begun = omega (arith, loop· .inv .begun); within = w .1; long = put-figure· .kept .1 .1 .1 .0 ∙ loop· .inv .long; room = omega (arith, if1· .left, loop· .inv .room, put-figure· .ensures .1, put-figure· .kept .1 .1 .1 .0); eight = loop· .inv .eight; stands = after-moved (args· .pen) (loop· .place + args· .look .domain .multi - args· .from) (trace· .result .point) (omega (arith, loop· .inv .begun, r .0)); runs = λ l m k h t. reaches-point _ _ _ _ _ _ _ l m _ _ _ _ _ _ _ _ _ _ _ _ _ (loop· .inv .begun) (pre· .0) (loop· .inv .eight) (loop· .inv .stands) (loop· .inv .own) (loop· .inv .due) (w .0) (omega (arith, if1· .left, loop· .inv .room)) h (r .0) (r .1) (omega (arith, w .1, pre· .4)) t (w .2) (λ bs a e. trace· .ensures .0 l _ bs (target· .ensures .0) (target· .ensures .1) e a m) (put-figure· .ensures .0 l k) (with-due· .ensures) (loop· .inv .runs l m k h t) }
+    record {
+      own = loop· .inv .own ∙ ap rowOf (sym (ap (λ (x : Command). x .opcode) (with-due· .ensures) ∙ trace· .ensures .1));
+      due = role-due3· .ensures;
+      begun = omega (arith, loop· .inv .begun);
+      within = w .1;
+      long = put-figure· .kept .1 .1 .1 .0 ∙ loop· .inv .long;
+      room = omega (arith, if1· .left, loop· .inv .room, put-figure· .ensures .1, put-figure· .kept .1 .1 .1 .0);
+      eight = loop· .inv .eight;
+      stands = after-moved (args· .pen) (loop· .place + args· .look .domain .multi - args· .from) (trace· .result .point) (omega (arith, loop· .inv .begun, r .0));
+      runs = λ l m k h t. reaches-point _ _ _ _ _ _ _ l m _ _ _ _ _ _ _ _ _ _ _ _ _ (loop· .inv .begun) (pre· .0) (loop· .inv .eight) (loop· .inv .stands) (loop· .inv .own) (loop· .inv .due) (w .0) (omega (arith, if1· .left, loop· .inv .room)) h (r .0) (r .1) (omega (arith, w .1, pre· .4)) t (w .2) (λ bs a e. trace· .ensures .0 l _ bs (target· .ensures .0) (target· .ensures .1) e a m) (put-figure· .ensures .0 l k) (with-due· .ensures) (loop· .inv .runs l m k h t);
+    }
 
 sub-after-5 : tie.Need-sub-after-5 Inv-loop μ-loop
 sub-after-5 c =
