@@ -556,17 +556,22 @@ impl Generator {
     /// A polygon of about as many vertices as a byte counts, or of about the
     /// most, seldom more; mostly with short operands.
     fn long_polygon(&mut self) {
-        let length = self.random.pick(&[1, 1, 1, 2, 3]);
-        self.set_lengths(length);
-        let opcode = self.random.byte(0x34, 0x37);
         let vertices = match self.random.below(8) {
             0..=3 => self.random.range(255, 260),
             4..=6 => self.random.range(410, MOST_VERTICES.into()),
             _ => self.random.range(usize::from(MOST_VERTICES) + 1, 415),
         };
+        let length = self.random.pick(&[1, 1, 1, 2, 3]);
+        self.polygon_of(vertices, length, 0);
+    }
+
+    /// A polygon of so many vertices, without its last `cut` bytes.
+    fn polygon_of(&mut self, vertices: usize, length: usize, cut: usize) {
+        self.set_lengths(length);
+        let opcode = self.random.byte(0x34, 0x37);
         self.put(opcode);
         let start = usize::from(opcode >= 0x36);
-        self.data((start + vertices - 1) * length);
+        self.data((start + vertices - 1) * length - cut);
     }
 
     /// DOMAIN with a multi-value length, in two dimensions.
@@ -1108,13 +1113,8 @@ impl Generator {
 
     fn too_many_vertices(&mut self) {
         let length = self.random.pick(&[1, 2, 3]);
-        self.set_lengths(length);
-        let opcode = self.random.byte(0x34, 0x37);
-        self.put(opcode);
-        let start = usize::from(opcode >= 0x36);
-        let bytes = (start + usize::from(MOST_VERTICES)) * length;
         let cut = self.random.below(length);
-        self.data(bytes - cut);
+        self.polygon_of(usize::from(MOST_VERTICES) + 1, length, cut);
         if self.random.chance(60) {
             self.control();
         }

@@ -29,14 +29,13 @@ use tables::opcodes::row_place;
 use tables::opcodes::rows;
 ghost use mathlib.Core.Path.{_≡_};
 ghost use mathlib.Core.Bool.{true, false};
-ghost use mathlib.Core.List.{List};
 ghost use Prim.Native.Nat.{ℕ, _+_, _≤_};
 ghost use lib.ListN.{length};
 ghost use Rattle.rules.specs.declared.Role.{Role};
 ghost use Rattle.rules.specs.declared.Set.{Set};
 ghost use Rattle.rules.specs.Ranges.{domainFits, commandFits};
 ghost use Rattle.figures.specs.Tracing.{isForeground};
-ghost use Rattle.drawing_runs.specs.Run.{ActsAs, Run, standing};
+ghost use Rattle.drawing_runs.specs.Run.{ActsAs, RunsTo};
 ghost use Rattle.drawing_runs.specs.Strokes.{penAfter};
 ghost use Rattle.command_runs.specs.Asked.{asked};
 
@@ -124,9 +123,7 @@ pub fn run_commands(
 ) -> Ran
     requires { ⌜ (pen .operand .count ≡ 0) × (domainFits (look .domain) ≡ true) × (commandFits command ≡ true) × (from ≤ to)
         × (to ≤ length (now bytes)) × (at ≤ length (now out)) ⌝ }
-    ensures ran { λ r. ⌜ ((m : List ℕ)
-        → Run Set.Pdi (now (bytes .entry)) from (standing pen command look m at (now (out .entry))) (r .count)
-        (standing (r .pen) (r .command) look m (r .at) (now (out .exit)))) ⌝ }
+    ensures ran { λ r. ⌜ RunsTo Set.Pdi (now (bytes .entry)) from pen command look at (now (out .entry)) r (now (out .exit)) ⌝ }
     ensures most { λ r. ⌜ from + r .count ≤ to ⌝ }
 {
     let ink = head_of(look, 0, 0, 0, 0);

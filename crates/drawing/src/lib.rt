@@ -17,7 +17,6 @@ use rules::Action;
 use rules::Command;
 use rules::Look;
 use rules::Pen;
-use rules::Row;
 use tables::opcodes::row_of;
 ghost use mathlib.Core.Path.{_≡_};
 ghost use mathlib.Core.Bool.{true};
@@ -26,13 +25,12 @@ ghost use Prim.Native.Nat.{_+_, _≤_};
 ghost use lib.ListN.{length};
 ghost use Rattle.rules.specs.Numbers.{roomForStep};
 ghost use Rattle.rules.specs.Record.{mark};
-ghost use Rattle.rules.specs.Drawing.{rowOf, Draw, andThen, close, openCommand, act};
+ghost use Rattle.rules.specs.Drawing.{Draw, andThen, close, openCommand, act};
 ghost use Rattle.rules.specs.Ranges.{drawingFits};
 ghost use Rattle.figures.specs.Carried.{carryOut, drawingOf, carriedOf};
 
-// Closes the command that the row is of, and writes a record of the drawing point.
+// Closes the open command, and writes a record of the drawing point.
 fn close_and_mark(
-    row: Row,
     kind: u8,
     repertoire: u8,
     code: u8,
@@ -43,12 +41,12 @@ fn close_and_mark(
     out: &mut [u8],
     at: usize,
 ) -> Drawn
-    requires { ⌜ (row ≡ rowOf (command .opcode)) × (pen .operand .count ≤ 8) × (look .colour .foreground ≤ 15)
-        × (at + roomForStep ≤ length (now out)) ⌝ }
+    requires { ⌜ (pen .operand .count ≤ 8) × (look .colour .foreground ≤ 15) × (at + roomForStep ≤ length (now out)) ⌝ }
     ensures { λ r. ⌜ carriedOf r (now (map .exit)) (now (out .exit))
         ≡ carryOut (λ d. andThen (close d) (λ e. Draw e (mark (e .look) kind repertoire code (e .pen .point) ∷ [])))
         (drawingOf pen command look (now (map .entry))) at (now (out .entry)) ⌝ }
 {
+    let row = row_of(command.opcode);
     let done = close(row, pen, command, look, map, out, at);
     if done.too_many_vertices {
         return done;
@@ -57,9 +55,8 @@ fn close_and_mark(
     one_record(record, done.pen, done.command, done.look, out, done.at)
 }
 
-// Closes the command that the row is of, and opens another.
+// Closes the open command, and opens another.
 fn close_and_open(
-    row: Row,
     opcode: u8,
     pen: Pen,
     command: Command,
@@ -68,12 +65,12 @@ fn close_and_open(
     out: &mut [u8],
     at: usize,
 ) -> Drawn
-    requires { ⌜ (row ≡ rowOf (command .opcode)) × (pen .operand .count ≤ 8) × (look .colour .foreground ≤ 15)
-        × (at + roomForStep ≤ length (now out)) ⌝ }
+    requires { ⌜ (pen .operand .count ≤ 8) × (look .colour .foreground ≤ 15) × (at + roomForStep ≤ length (now out)) ⌝ }
     ensures { λ r. ⌜ carriedOf r (now (map .exit)) (now (out .exit))
         ≡ carryOut (λ d. andThen (close d) (openCommand opcode)) (drawingOf pen command look (now (map .entry))) at
         (now (out .entry)) ⌝ }
 {
+    let row = row_of(command.opcode);
     let done = close(row, pen, command, look, map, out, at);
     if done.too_many_vertices {
         return done;
@@ -112,19 +109,12 @@ pub fn act(
             let row = row_of(command.opcode);
             close(row, pen, command, look, map, out, at)
         }
-        Action::Control(byte) => {
-            let row = row_of(command.opcode);
-            close_and_mark(row, 7, 0, byte, pen, command, look, map, out, at)
-        }
+        Action::Control(byte) => close_and_mark(7, 0, byte, pen, command, look, map, out, at),
         Action::Character(repertoire, byte) => {
-            let row = row_of(command.opcode);
             let number = set_number(repertoire);
-            close_and_mark(row, 6, number, byte, pen, command, look, map, out, at)
+            close_and_mark(6, number, byte, pen, command, look, map, out, at)
         }
-        Action::Opcode(opcode) => {
-            let row = row_of(command.opcode);
-            close_and_open(row, opcode, pen, command, look, map, out, at)
-        }
+        Action::Opcode(opcode) => close_and_open(opcode, pen, command, look, map, out, at),
         Action::Data(byte) => {
             let row = row_of(command.opcode);
             data_byte(row, byte, pen, command, look, map, out, at)

@@ -13,6 +13,7 @@ use Rattle.rules.specs.Numbers.{roomForStep}
 use Rattle.rules.specs.Coding.{React, setOf, react}
 use Rattle.rules.specs.Drawing.{Draw, act}
 use Rattle.figures.specs.Carried.{Carried, carry, drawingOf}
+use Rattle.drawing_runs.specs.declared.Ran.{Ran}
 
 -- A byte that asks an action of drawing and changes nothing else, wherever nothing is waited for and the set is in use
 pub record ActsAs (s : Set) (b : ℕ) (a : Action) : Type 0 where
@@ -29,3 +30,9 @@ pub data Run (s : Set) (bytes : List ℕ) (from : ℕ) (x : Carried) : ℕ → C
       → Run s bytes from x n y → ActsAs s (getD bytes (from + n) 0) a
       → y .at + roomForStep ≤ length (y .output) → act a (y .drawing) ≡ Draw e rs
       → Run s bytes from x (suc n) (carry (Draw e rs) (y .drawing) (y .at) (y .output))
+
+-- What a run of bytes of a set comes to from a drawing state, whatever its map holds, with the output left so
+abbrev pub RunsTo : Set → List ℕ → ℕ → Pen → Command → Look → ℕ → List ℕ → Ran → List ℕ → Type 0
+RunsTo s bytes from pen command look at out r left =
+    (m : List ℕ)
+    → Run s bytes from (standing pen command look m at out) (r .count) (standing (r .pen) (r .command) look m (r .at) left)

@@ -19,7 +19,7 @@ ghost use mathlib.Core.List.{List};
 ghost use Prim.Native.Nat.{ℕ, _+_, _*_, _<_, _≤_};
 ghost use lib.ListN.{length};
 ghost use Rattle.rules.specs.Numbers.{roomForStep};
-ghost use Rattle.drawing_runs.specs.Run.{Run, standing};
+ghost use Rattle.drawing_runs.specs.Run.{Run, standing, RunsTo};
 ghost use Rattle.drawing_runs.specs.Text.{lastCharacter, typed};
 
 // 7/15 of the primary and supplementary sets does nothing.
@@ -94,9 +94,8 @@ pub fn run_text(
     at: usize,
 ) -> Ran
     requires { ⌜ (command .opcode ≡ 0) × (from ≤ to) × (to ≤ length (now bytes)) × (at ≤ length (now out)) ⌝ }
-    ensures ran { λ r. ⌜ ((m : List ℕ)
-        → Run (Set.Characters set) (now (bytes .entry)) from (standing pen command look m at (now (out .entry)))
-        (r .count) (standing (r .pen) (r .command) look m (r .at) (now (out .exit)))) ⌝ }
+    ensures ran { λ r. ⌜ RunsTo (Set.Characters set) (now (bytes .entry)) from pen command look at
+        (now (out .entry)) r (now (out .exit)) ⌝ }
     ensures most { λ r. ⌜ from + r .count ≤ to ⌝ }
 {
     let most = most_steps(to - from, out.len() - at);

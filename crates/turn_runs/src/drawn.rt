@@ -26,7 +26,7 @@ ghost use Prim.Native.Nat.{ℕ, _+_, _-_, _≤_};
 ghost use lib.ListN.{length};
 ghost use Rattle.rules.specs.Ranges.{domainFits, commandFits};
 ghost use Rattle.store.specs.Lent.{Sized};
-ghost use Rattle.drawing_runs.specs.Run.{Run, standing};
+ghost use Rattle.drawing_runs.specs.Run.{RunsTo};
 ghost use Rattle.turn_runs.specs.Walk.{Walk, Fit, sourceOf, Lies, Passes, placesAfter, reachedAt};
 
 fn none_drawn(pen: Pen, command: Command, at: usize) -> Ran
@@ -53,9 +53,7 @@ fn draw_pdi(
 ) -> Ran
     requires { ⌜ (domainFits (look .domain) ≡ true) × (commandFits command ≡ true) × (from ≤ to) × (to ≤ length (now bytes))
         × (at ≤ length (now out)) ⌝ }
-    ensures ran { λ r. ⌜ ((m : List ℕ)
-        → Run Set.Pdi (now (bytes .entry)) from (standing pen command look m at (now (out .entry))) (r .count)
-        (standing (r .pen) (r .command) look m (r .at) (now (out .exit)))) ⌝ }
+    ensures ran { λ r. ⌜ RunsTo Set.Pdi (now (bytes .entry)) from pen command look at (now (out .entry)) r (now (out .exit)) ⌝ }
     ensures most { λ r. ⌜ from + r .count ≤ to ⌝ }
 {
     if pen.operand.count != 0 {
@@ -86,9 +84,8 @@ fn draw_text(
     at: usize,
 ) -> Ran
     requires { ⌜ (from ≤ to) × (to ≤ length (now bytes)) × (at ≤ length (now out)) ⌝ }
-    ensures ran { λ r. ⌜ ((m : List ℕ)
-        → Run (Set.Characters repertoire) (now (bytes .entry)) from (standing pen command look m at (now (out .entry)))
-        (r .count) (standing (r .pen) (r .command) look m (r .at) (now (out .exit)))) ⌝ }
+    ensures ran { λ r. ⌜ RunsTo (Set.Characters repertoire) (now (bytes .entry)) from pen command look at
+        (now (out .entry)) r (now (out .exit)) ⌝ }
     ensures most { λ r. ⌜ from + r .count ≤ to ⌝ }
 {
     if command.opcode != 0 {
@@ -111,9 +108,7 @@ fn draw_set(
 ) -> Ran
     requires { ⌜ (domainFits (look .domain) ≡ true) × (commandFits command ≡ true) × (from ≤ to) × (to ≤ length (now bytes))
         × (at ≤ length (now out)) ⌝ }
-    ensures ran { λ r. ⌜ ((m : List ℕ)
-        → Run set (now (bytes .entry)) from (standing pen command look m at (now (out .entry))) (r .count)
-        (standing (r .pen) (r .command) look m (r .at) (now (out .exit)))) ⌝ }
+    ensures ran { λ r. ⌜ RunsTo set (now (bytes .entry)) from pen command look at (now (out .entry)) r (now (out .exit)) ⌝ }
     ensures most { λ r. ⌜ from + r .count ≤ to ⌝ }
 {
     match set {

@@ -12,21 +12,18 @@ close-requires c κs =
 
 close-and-mark-requires : tie.Need-close-and-mark-requires
 close-and-mark-requires c κs =
-    let row-of2· = c .before .before .row-of2 in
-    let pre· = c .before .before .before .before .before .before .before .pre in
-    (row-of2· .ensures, le-of-lt (count-most _ (pre· .0)), foreground-most _ (pre· .0), pre· .1)
+    let pre· = c .before .before .before .before .before .before .pre in
+    (le-of-lt (count-most _ (pre· .0)), foreground-most _ (pre· .0), pre· .1)
 
 close-and-mark-requires-2 : tie.Need-close-and-mark-requires-2
 close-and-mark-requires-2 c κs =
-    let row-of3· = c .before .before .before .row-of3 in
-    let pre· = c .before .before .before .before .before .before .before .before .pre in
-    (row-of3· .ensures, le-of-lt (count-most _ (pre· .0)), foreground-most _ (pre· .0), pre· .1)
+    let pre· = c .before .before .before .before .before .before .before .pre in
+    (le-of-lt (count-most _ (pre· .0)), foreground-most _ (pre· .0), pre· .1)
 
 close-and-open-requires : tie.Need-close-and-open-requires
 close-and-open-requires c κs =
-    let row-of4· = c .before .before .row-of4 in
-    let pre· = c .before .before .before .before .before .before .before .pre in
-    (row-of4· .ensures, le-of-lt (count-most _ (pre· .0)), foreground-most _ (pre· .0), pre· .1)
+    let pre· = c .before .before .before .before .before .before .pre in
+    (le-of-lt (count-most _ (pre· .0)), foreground-most _ (pre· .0), pre· .1)
 
 data-byte-requires : tie.Need-data-byte-requires
 data-byte-requires c κs =
@@ -50,14 +47,14 @@ returns-2 c =
 returns-3 : tie.Need-returns-3
 unfolding act
 returns-3 c =
-    let action· = c .before .before .before .before .before .before .before .action in
+    let action· = c .before .before .before .before .before .before .action in
     let close-and-mark· = c .before .before .close-and-mark in
     rw (action· .given .1) (close-and-mark· .ensures)
 
 returns-4 : tie.Need-returns-4
 unfolding act
 returns-4 c =
-    let action2· = c .before .before .before .before .before .before .before .before .action2 in
+    let action2· = c .before .before .before .before .before .before .before .action2 in
     let set-number· = c .before .before .before .before .before .set-number in
     let close-and-mark2· = c .before .before .close-and-mark2 in
     rw (action2· .given .1) (rw (set-number· .ensures) at (close-and-mark2· .ensures))
@@ -65,7 +62,7 @@ returns-4 c =
 returns-5 : tie.Need-returns-5
 unfolding act
 returns-5 c =
-    let action3· = c .before .before .before .before .before .before .before .action3 in
+    let action3· = c .before .before .before .before .before .before .action3 in
     let close-and-open· = c .before .before .close-and-open in
     rw (action3· .given .1) (close-and-open· .ensures)
 
@@ -73,9 +70,9 @@ returns-6 : tie.Need-returns-6
 unfolding act
 returns-6 c =
     let action4· = c .before .before .before .before .before .before .before .action4 in
-    let row-of5· = c .before .before .before .before .before .row-of5 in
+    let row-of2· = c .before .before .before .before .before .row-of2 in
     let data-byte· = c .before .before .data-byte in
-    rw (action4· .given .1) (rw (row-of5· .ensures) at (data-byte· .ensures))
+    rw (action4· .given .1) (rw (row-of2· .ensures) at (data-byte· .ensures))
 
 pub act-spec : {M : Type 1} → statement M
 act-spec =
@@ -87,14 +84,11 @@ act-spec =
     (λ c κs. search needs)
     close-requires
     (λ c. search needs)
-    (λ c κs. search needs)
     close-and-mark-requires
     (λ c. search needs)
     (λ c κs. search needs)
-    (λ c κs. search needs)
     close-and-mark-requires-2
     (λ c. search needs)
-    (λ c κs. search needs)
     close-and-open-requires
     (λ c. search needs)
     (λ c κs. search needs)

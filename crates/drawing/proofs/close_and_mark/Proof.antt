@@ -5,6 +5,12 @@ use Rattle.drawing.proofs.ClosingLaws.{close-place}
 use Rattle.drawing.proofs.close_and_mark.Statement.{statement}
 use Rattle.drawing.proofs.close_and_mark.Tie as tie
 
+close-requires : tie.Need-close-requires
+close-requires c κs =
+    let row-of· = c .before .before .row-of in
+    let pre· = c .before .before .before .before .pre in
+    (row-of· .ensures, pre· .0, pre· .1, omega (arith, pre· .2))
+
 returns : tie.Need-returns
 returns c =
     let close· = c .before .before .before .close in
@@ -13,7 +19,7 @@ returns c =
 
 one-record-requires : tie.Need-one-record-requires
 one-record-requires c κs =
-    let pre· = c .before .before .before .before .before .before .before .before .before .pre in
+    let pre· = c .before .before .before .before .before .before .before .before .before .before .pre in
     let close· = c .before .before .before .before .before .close in
     omega (arith, pre·, close-place _ _ _ _ (close· .ensures))
 
@@ -21,7 +27,7 @@ returns-2 : tie.Need-returns-2
 returns-2 c =
     let close· = c .before .before .before .before .before .before .before .before .close in
     let if1· = c .before .before .before .before .before .if1 in
-    let pre· = c .before .before .before .before .before .before .before .before .before .before .before .before .pre in
+    let pre· = c .before .before .before .before .before .before .before .before .before .before .before .before .before .pre in
     let one-record· = c .before .before .one-record in
     let mark· = c .before .before .before .before .mark in
     then-drawn _ _ _ _ _ _ _ (close· .ensures) (if1· .left) (omega (arith, pre·)) tt (one-record· .ensures _ ∙ record-so _ _ _ (mark· .ensures))
@@ -31,6 +37,7 @@ close-and-mark-spec =
     tie.close
     (tie.spec
     (λ c κs. search needs)
+    close-requires
     (λ c. search needs)
     returns
     (λ c κs. search needs)

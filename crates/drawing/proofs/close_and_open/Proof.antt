@@ -6,6 +6,12 @@ use Rattle.drawing.proofs.ClosingLaws.{close-place}
 use Rattle.drawing.proofs.close_and_open.Statement.{statement}
 use Rattle.drawing.proofs.close_and_open.Tie as tie
 
+close-requires : tie.Need-close-requires
+close-requires c κs =
+    let row-of· = c .before .before .row-of in
+    let pre· = c .before .before .before .before .pre in
+    (row-of· .ensures, pre· .0, pre· .1, omega (arith, pre· .2))
+
 returns : tie.Need-returns
 returns c =
     let close· = c .before .before .before .close in
@@ -14,10 +20,10 @@ returns c =
 
 open-at-requires : tie.Need-open-at-requires
 open-at-requires c κs =
-    let row-of· = c .before .row-of in
-    let pre· = c .before .before .before .before .before .before .before .before .before .before .pre in
+    let row-of2· = c .before .row-of2 in
+    let pre· = c .before .before .before .before .before .before .before .before .before .before .before .pre in
     let close· = c .before .before .before .before .before .before .close in
-    (row-of· .ensures, omega (arith, pre·, close-place _ _ _ _ (close· .ensures)))
+    (row-of2· .ensures, omega (arith, pre·, close-place _ _ _ _ (close· .ensures)))
 
 same-length-2 : tie.Need-same-length-2
 same-length-2 c =
@@ -31,10 +37,10 @@ returns-2 c =
     let close· = c .before .before .before .before .before .before .before .before .before .before .before .close in
     let head-of· = c .before .before .before .before .before .before .before .head-of in
     let if1· = c .before .before .before .before .before .before .before .before .if1 in
-    let pre· = c .before .before .before .before .before .before .before .before .before .before .before .before .before .before .before .pre in
+    let pre· = c .before .before .before .before .before .before .before .before .before .before .before .before .before .before .before .before .pre in
     let no-record· = c .no-record in
-    let open-at· = c .before .before .before .before .open-at in
     let moved· = c .before .moved in
+    let open-at· = c .before .before .before .before .open-at in
     let k : Inks _ _ (close· .result .look) = record { head = head-of· .ensures; size = refl } in
     then-drawn _ _ _ _ _ _ _ (close· .ensures) (if1· .left) (omega (arith, pre·)) tt
     (no-record· .ensures _ _ ∙ (carry-none _ _ _ _ ∙ rw (moved· .ensures) (open-at· .ensures .0 _ _ _ _ k)))
@@ -44,6 +50,7 @@ close-and-open-spec =
     tie.close
     (tie.spec
     (λ c κs. search needs)
+    close-requires
     (λ c. search needs)
     returns
     (λ c κs. tt)
