@@ -1,5 +1,7 @@
 //! Code extension: sets, shifts, escape sequences and controls.
 
+use crate::text::{Effector, Positioning};
+
 /// What a G set names.
 #[derive(Clone, Copy, Debug, PartialEq, Eq)]
 #[repr(u8)]
@@ -12,8 +14,29 @@ pub enum Set {
     Macro,
 }
 
+impl Set {
+    /// Whether a code is a character of the set, one that has characters.
+    #[inline]
+    pub fn has(self, code: u8) -> bool {
+        let last = match self {
+            Set::Primary | Set::Supplementary => DELETE - 1,
+            _ => DELETE,
+        };
+        code.wrapping_sub(0x20) <= last - 0x20
+    }
+
+    /// Whether a character moves no cursor: column 4 of supplementary.
+    #[inline]
+    pub fn is_accent(self, code: u8) -> bool {
+        self == Set::Supplementary && code >> 4 == 4
+    }
+}
+
 /// One of G0 to G3.
 pub type G = u8;
+
+/// What G0 to G3 name at first.
+pub const FIRST_SETS: [Set; 4] = [Set::Primary, Set::Pdi, Set::Supplementary, Set::Mosaic];
 
 /// What the next byte is read as, apart from the set in use.
 #[derive(Clone, Copy, Debug, PartialEq, Eq)]
@@ -32,12 +55,22 @@ pub enum Coding {
     Body,
     /// Inside a definition, after an ESC that is held.
     BodyEscape,
+    /// After APS or NSR: the byte is the row.
+    Row(Positioning),
+    /// After that row byte: the byte is the column.
+    Column(Positioning, u8),
 }
 
 impl Coding {
     #[inline]
     pub fn is_definition(self) -> bool {
         matches!(self, Coding::Name | Coding::Body | Coding::BodyEscape)
+    }
+
+    /// Whether a row or column byte is due.
+    #[inline]
+    pub fn is_position(self) -> bool {
+        matches!(self, Coding::Row(_) | Coding::Column(..))
     }
 }
 
@@ -55,9 +88,10 @@ pub enum Control {
     LockingShift(G),
     SingleShift(G),
     Escape,
-    Refused,
-    /// Closes the open command and writes a record.
+    /// Closes the open command and writes a record, as do those below.
     Recorded,
+    Format(Effector),
+    Position(Positioning),
 }
 
 /// The controls 0/0 to 1/15.
@@ -73,8 +107,15 @@ pub static CONTROLS: [Control; 32] = {
     table[0x19] = Control::SingleShift(2);
     table[0x1D] = Control::SingleShift(3);
     table[ESC as usize] = Control::Escape;
-    table[0x1C] = Control::Refused;
-    table[0x1F] = Control::Refused;
+    table[0x08] = Control::Format(Effector::Apb);
+    table[0x09] = Control::Format(Effector::Apf);
+    table[0x0A] = Control::Format(Effector::Apd);
+    table[0x0B] = Control::Format(Effector::Apu);
+    table[0x0C] = Control::Format(Effector::Cs);
+    table[0x0D] = Control::Format(Effector::Apr);
+    table[0x1E] = Control::Format(Effector::Aph);
+    table[0x1C] = Control::Position(Positioning::Aps);
+    table[0x1F] = Control::Position(Positioning::Nsr);
     table
 };
 

@@ -3,6 +3,8 @@
 /// G, R and B, in the order of the records.
 pub type Grb = [u8; 3];
 
+const WHITE: Grb = [255; 3];
+
 /// The colour mode, the colours and the map.
 #[derive(Clone, Debug, PartialEq, Eq)]
 pub struct Colours {
@@ -19,7 +21,7 @@ impl Colours {
     pub fn new() -> Self {
         let mut colours = Colours {
             mode: 0,
-            direct: [255; 3],
+            direct: WHITE,
             foreground: 0,
             background: 0,
             map: [[0; 3]; 16],
@@ -38,6 +40,12 @@ impl Colours {
     /// The map's entry at an address, if there is one.
     pub fn entry(&self, address: u8) -> Option<Grb> {
         self.map.get(usize::from(address)).copied()
+    }
+
+    /// NSR: mode 0 and white; addresses and map stay.
+    pub fn reset(&mut self) {
+        self.direct = WHITE;
+        self.select_direct();
     }
 
     pub fn select_direct(&mut self) {

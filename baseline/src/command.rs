@@ -23,6 +23,11 @@ pub enum Role {
     /// The first byte of DOMAIN.
     Lengths,
     Pel,
+    /// The two bytes of TEXT.
+    TextFirst,
+    TextSecond,
+    /// dx and dy of TEXT.
+    Field,
     Foreground,
     Background,
     Colour,
@@ -40,7 +45,7 @@ pub struct Row {
     /// Flag 1 for a filled figure, else 0.
     pub filled: u8,
     /// Whether opening writes a record by itself.
-    pub other: bool,
+    pub recorded: bool,
 }
 
 /// A place in the pattern of an opcode.
@@ -75,11 +80,6 @@ impl Place {
             place: self.row().next[usize::from(self.place) % PATTERN],
         }
     }
-
-    #[inline]
-    pub fn is_start(self) -> bool {
-        self.place == 0
-    }
 }
 
 /// A pattern that goes on at place `again` after its last role.
@@ -100,7 +100,7 @@ const fn pattern(given: &[Role], again: usize) -> Row {
         roles,
         next,
         filled: 0,
-        other: false,
+        recorded: false,
     }
 }
 
@@ -121,13 +121,17 @@ const fn filled(row: Row) -> Row {
     }
 }
 
-const OTHER: Row = Row {
-    other: true,
-    ..repeated(&[Role::Ignore])
-};
+const fn recorded(row: Row) -> Row {
+    Row {
+        recorded: true,
+        ..row
+    }
+}
 
-/// SELECT COLOUR, which acts when closed without an operand.
-pub const SELECT_COLOUR: u8 = 0x3E;
+const OTHER: Row = recorded(repeated(&[Role::Ignore]));
+
+/// TEXT, which also acts when closed.
+pub const TEXT: u8 = 0x22;
 
 /// The rows of 2/0 to 3/15.
 pub static ROWS: [Row; 32] = {
@@ -135,7 +139,7 @@ pub static ROWS: [Row; 32] = {
     [
         OTHER,
         once(&[Lengths, Pel, Ignore]),
-        OTHER,
+        recorded(once(&[TextFirst, TextSecond, Field, Ignore])),
         OTHER,
         repeated(&[MoveTo]),
         repeated(&[MoveBy]),

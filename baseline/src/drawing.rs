@@ -1,19 +1,32 @@
 //! The open command: its operands, what they draw, and its closing.
 
+use crate::coding::Set;
 use crate::colour::Colours;
-use crate::command::{Place, Role, SELECT_COLOUR};
+use crate::command::{Place, Role, TEXT};
 use crate::operand::{colour_bits, is_data, Layout};
 use crate::record::{fields, fill, header, Kind, Output, Point, CLOSING, WRAPPED};
+use crate::text::{Effector, Ink, Positioning, Text};
 use crate::Number;
 
 /// Vertices of a polygon, its start included (02, 1/13).
 pub(crate) const MOST_VERTICES: u16 = 412;
 
-/// Domain, colours, drawing point and the open command.
+/// The lengths at first.
+const FIRST_LAYOUT: Layout = Layout {
+    length: 3,
+    three_dimensions: false,
+};
+const FIRST_SINGLE: u8 = 1;
+
+/// Domain, colours, text, drawing point and the open command.
 #[derive(Clone, Debug, PartialEq, Eq)]
 pub struct Drawing {
     /// The drawing point.
     point: Point,
+    /// Whether it was moved since the cursor last followed it. Following is
+    /// absolute, so it can wait until the cursor is asked for.
+    moved: bool,
+    text: Text,
     layout: Layout,
     /// Single-value length, 1 to 4.
     single: u8,
@@ -40,11 +53,10 @@ impl Drawing {
     pub fn new() -> Self {
         Drawing {
             point: Point::default(),
-            layout: Layout {
-                length: 3,
-                three_dimensions: false,
-            },
-            single: 1,
+            moved: false,
+            text: Text::new(),
+            layout: FIRST_LAYOUT,
+            single: FIRST_SINGLE,
             pel: Point::default(),
             colours: Colours::new(),
             open: false,
@@ -88,7 +100,9 @@ impl Drawing {
         self.place = Place::start(opcode);
         self.role = self.place.role();
         self.vertices = 0;
-        if self.place.row().other {
+        if self.place.row().recorded {
+            // TEXT changes what following means.
+            self.follow();
             self.write_code(Kind::Opcode, opcode, output);
         }
         Ok(())
@@ -111,14 +125,17 @@ impl Drawing {
             }
             self.complete(output);
         }
-        if self.role == Role::ArcEnd {
-            self.finish_arc(self.start, self.wrapped, output);
-        } else if self.role == Role::Edge && self.vertices > 0 {
-            let flags = CLOSING | self.filled();
-            self.write(Kind::Edge, flags, [self.point, self.start], output);
-            self.point = self.start;
-        } else if self.place.opcode == SELECT_COLOUR && self.place.is_start() {
-            self.colours.select_direct();
+        match self.role {
+            Role::ArcEnd => self.finish_arc(self.start, self.wrapped, output),
+            Role::Edge if self.vertices > 0 => {
+                let flags = CLOSING | self.filled();
+                self.write(Kind::Edge, flags, [self.point, self.start], output);
+                self.move_to(self.start);
+            }
+            // SELECT COLOUR without an operand.
+            Role::Foreground => self.colours.select_direct(),
+            _ if self.place.opcode == TEXT => self.close_text(),
+            _ => {}
         }
         self.open = false;
         self.role = Role::Ignore;
@@ -135,7 +152,12 @@ impl Drawing {
                 *input = &input[run..];
                 Ok(())
             }
-            Role::Lengths | Role::Foreground | Role::Background | Role::Colour => {
+            Role::Lengths
+            | Role::TextFirst
+            | Role::TextSecond
+            | Role::Foreground
+            | Role::Background
+            | Role::Colour => {
                 self.value_byte(input[0], output);
                 *input = &input[1..];
                 Ok(())
@@ -207,8 +229,10 @@ impl Drawing {
             point = point.base(relative).plus(Point::unpack(operand)).0;
             rest = after;
         }
-        self.point = point;
-        *input = rest;
+        if rest.len() < input.len() {
+            self.move_to(point);
+            *input = rest;
+        }
     }
 
     /// Lines, one a step while there is room.
@@ -228,9 +252,11 @@ impl Drawing {
             point = to;
             read += 1;
         }
-        self.point = point;
-        output.advance(read);
-        *input = &input[read * N..];
+        if read > 0 {
+            self.move_to(point);
+            output.advance(read);
+            *input = &input[read * N..];
+        }
     }
 
     /// Operands of any roles, while there is room.
@@ -272,7 +298,7 @@ impl Drawing {
     /// One byte of an operand that is no point.
     fn value_byte(&mut self, byte: u8, output: &mut Output) {
         let length = match self.role {
-            Role::Lengths => 1,
+            Role::Lengths | Role::TextFirst | Role::TextSecond => 1,
             Role::Colour => self.layout.length,
             _ => self.single,
         };
@@ -300,6 +326,8 @@ impl Drawing {
         self.operand = 0;
         match self.role {
             Role::Lengths => self.set_lengths(operand as u8),
+            Role::TextFirst => self.text.set_first(operand as u8),
+            Role::TextSecond => self.text.set_second(operand as u8),
             Role::Foreground => self.colours.select_foreground(address(operand)),
             Role::Background => self.colours.select_background(address(operand)),
             Role::Colour => self.set_colour(operand, output),
@@ -326,10 +354,10 @@ impl Drawing {
     fn apply_point(&mut self, operand: Point, output: &mut Output) {
         let from = self.point;
         match self.role {
-            Role::Start | Role::MoveTo => self.point = operand,
-            Role::MoveBy => self.point = from.plus(operand).0,
+            Role::Start | Role::MoveTo => self.move_to(operand),
+            Role::MoveBy => self.move_to(from.plus(operand).0),
             Role::PointAt => {
-                self.point = operand;
+                self.move_to(operand);
                 self.write(Kind::Point, 0, [operand, Point::default()], output);
             }
             Role::PointBy => {
@@ -337,7 +365,7 @@ impl Drawing {
                 self.write(Kind::Point, flags, [self.point, Point::default()], output);
             }
             Role::LineTo => {
-                self.point = operand;
+                self.move_to(operand);
                 self.write(Kind::Line, 0, [from, operand], output);
             }
             Role::LineBy => {
@@ -347,7 +375,7 @@ impl Drawing {
             Role::ArcMiddle => {
                 self.start = from;
                 (self.middle, self.wrapped) = from.plus(operand);
-                self.point = self.middle;
+                self.move_to(self.middle);
             }
             Role::ArcEnd => {
                 let (end, wrapped) = from.plus(operand);
@@ -356,18 +384,26 @@ impl Drawing {
             Role::Rectangle => self.rectangle(operand, output),
             Role::Edge => self.edge(operand, output),
             Role::Pel => self.pel = operand,
+            Role::Field => self.text.set_field(operand),
             // No points; data and complete keep them apart.
-            Role::Ignore | Role::Lengths | Role::Colour => {}
-            Role::Foreground | Role::Background => {}
+            Role::Ignore | Role::Lengths | Role::TextFirst | Role::TextSecond => {}
+            Role::Foreground | Role::Background | Role::Colour => {}
         }
         self.advance();
+    }
+
+    /// Moves the drawing point; the cursor is to follow.
+    #[inline]
+    fn move_to(&mut self, to: Point) {
+        self.point = to;
+        self.moved = true;
     }
 
     /// Moves the drawing point; answers flag 2 if the sum left the range.
     #[inline]
     fn move_by(&mut self, by: Point) -> u8 {
         let (to, wrapped) = self.point.plus(by);
-        self.point = to;
+        self.move_to(to);
         wrapped_flag(wrapped)
     }
 
@@ -375,7 +411,7 @@ impl Drawing {
         let flags = self.filled() | wrapped_flag(wrapped);
         let header = header(Kind::Arc, flags, self.colours.paint());
         output.push(header, [self.start, self.middle, end], self.pel);
-        self.point = end;
+        self.move_to(end);
     }
 
     fn rectangle(&mut self, by: Point, output: &mut Output) {
@@ -384,7 +420,7 @@ impl Drawing {
         let flags = self.filled() | wrapped_flag(wrapped);
         self.write(Kind::Rectangle, flags, [from, to], output);
         // The point moves by dx only.
-        self.point.x = to.x;
+        self.move_to(Point { x: to.x, ..from });
     }
 
     fn edge(&mut self, by: Point, output: &mut Output) {
@@ -439,36 +475,79 @@ impl Drawing {
         );
     }
 
-    /// Writes the characters of a set in front of `codes`, one a step while
-    /// there is room; answers how many. `past` is the code past the last.
+    // Text.
+
+    /// The cursor follows the drawing point, if that was moved.
     #[inline]
-    pub fn write_characters(&self, set: u8, past: u8, codes: &[u8], output: &mut Output) -> usize {
-        let header = header(Kind::Character, 0, self.colours.paint()) | u64::from(set) << 48;
-        let points = [self.point, Point::default(), Point::default()];
-        let fields = fields(points, self.pel);
-        let mut written = 0;
-        for (slot, &code) in output.slots().iter_mut().zip(codes) {
-            if !(0x20..past).contains(&code) {
-                break;
-            }
-            fill(slot, header | u64::from(code) << 56, &fields);
-            written += 1;
+    fn follow(&mut self) {
+        if self.moved {
+            self.moved = false;
+            self.text.follow(self.point);
         }
-        output.advance(written);
-        written
     }
 
-    /// Writes one character in a step that has found room.
+    /// The drawing point is aligned with the cursor, which was set.
     #[inline]
-    pub fn write_character(&self, set: u8, code: u8, output: &mut Output) {
-        let header = header(Kind::Character, 0, self.colours.paint())
-            | u64::from(set) << 48
-            | u64::from(code) << 56;
-        output.push(
-            header,
-            [self.point, Point::default(), Point::default()],
-            self.pel,
-        );
+    fn align(&mut self) {
+        if let Some(point) = self.text.aligned() {
+            self.point = point;
+        }
+    }
+
+    /// The closing of TEXT; bytes that are missing count as zero.
+    #[inline(never)]
+    fn close_text(&mut self) {
+        if self.role == Role::TextFirst {
+            self.text.set_first(0);
+        }
+        if matches!(self.role, Role::TextFirst | Role::TextSecond) {
+            self.text.set_second(0);
+        }
+        self.text.close();
+        self.align();
+    }
+
+    /// Carries out a format effector whose record is written.
+    #[inline(never)]
+    pub fn format(&mut self, effector: Effector) {
+        self.follow();
+        if self.text.act(effector) {
+            self.align();
+        }
+    }
+
+    /// APS or NSR, whose record is written, before the row byte.
+    pub fn begin_position(&mut self, by: Positioning) {
+        self.follow();
+        if by == Positioning::Nsr {
+            self.layout = FIRST_LAYOUT;
+            self.single = FIRST_SINGLE;
+            self.pel = Point::default();
+            self.colours.reset();
+            self.text.reset();
+        }
+    }
+
+    /// The column byte of APS or NSR.
+    pub fn position(&mut self, by: Positioning, row: u8, column: u8) {
+        self.text.position(by, row, column);
+        self.align();
+    }
+
+    /// Writes characters of a set, one a step while they go on and there is
+    /// room; the first in a step that has found it.
+    pub fn characters(&mut self, set: Set, input: &mut &[u8], output: &mut Output) {
+        self.follow();
+        let ink = Ink {
+            header: header(Kind::Character, 0, self.colours.paint()) | (set as u64) << 48,
+            pel: self.pel,
+        };
+        let (written, advanced) = self.text.write(set, ink, input, output.slots_in_step());
+        output.advance(written);
+        *input = &input[written..];
+        if advanced {
+            self.align();
+        }
     }
 }
 

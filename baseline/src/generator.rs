@@ -1,6 +1,6 @@
 //! Seeded pages that reach every rule of the reader, most of them accepted.
 //!
-//! A page is a list of items: commands, characters, shifts, sequences,
+//! A page is a list of items: commands, text, characters, shifts, sequences,
 //! definitions, calls. The generator keeps a rough account of the sets in use
 //! so that most items mean what they are meant to; where the account is lost
 //! (after a call that shifts) it designates anew.
@@ -20,6 +20,35 @@ const MOSAIC: u8 = 0x7D;
 const MACRO: u8 = 0x7A;
 const DRCS: u8 = 0x7B;
 const FINALS: [u8; 6] = [PRIMARY, SUPPLEMENTARY, PDI, MOSAIC, MACRO, DRCS];
+
+/// The controls that set the cursor.
+const APB: u8 = 0x08;
+const APF: u8 = 0x09;
+const APD: u8 = 0x0A;
+const APU: u8 = 0x0B;
+const CS: u8 = 0x0C;
+const APR: u8 = 0x0D;
+const APH: u8 = 0x1E;
+const APS: u8 = 0x1C;
+const NSR: u8 = 0x1F;
+const EFFECTORS: [u8; 7] = [APB, APF, APD, APU, CS, APR, APH];
+/// What comes after a line that is full.
+const FEEDS: [&[u8]; 12] = [
+    &[APR, APD],
+    &[APR, APD],
+    &[APD, APR],
+    &[APD, APR],
+    &[APR],
+    &[APD],
+    &[APR, APR, APD],
+    &[APD, APD, APR],
+    &[APR, APD, APR, APD],
+    &[APD, APR, APD, APR],
+    &[APR, APD, APD, APR],
+    &[APD, APR, APR, APD],
+];
+/// The side of the unit screen.
+const SIDE: i64 = 1 << 31;
 
 const NAMES: usize = 96;
 /// Cells of the store that bodies can take, and bytes of each.
@@ -82,6 +111,7 @@ enum Theme {
     Coding,
     Store,
     Polygons,
+    Text,
     Noise,
 }
 
@@ -97,6 +127,14 @@ enum Item {
     Domain,
     StrayData,
     Characters,
+    Text,
+    Lines,
+    FullLine,
+    Effectors,
+    Accents,
+    Captions,
+    Position,
+    PositionByMacro,
     Control,
     Idle,
     Designate,
@@ -134,6 +172,14 @@ const EVERYTHING: &[Item] = &[
     StrayData,
     Characters,
     Characters,
+    Text,
+    Lines,
+    FullLine,
+    Effectors,
+    Accents,
+    Captions,
+    Position,
+    PositionByMacro,
     Control,
     Idle,
     Designate,
@@ -165,6 +211,8 @@ const DRAWING: &[Item] = &[
     SetColour,
     Domain,
     StrayData,
+    Text,
+    Effectors,
     Control,
     CloseSequence,
     Idle,
@@ -185,6 +233,8 @@ const MACROS: &[Item] = &[
     Domain,
     OperandsByMacro,
     PendingAtEnd,
+    PositionByMacro,
+    Characters,
     Control,
     Designate,
     LockingShift,
@@ -204,6 +254,8 @@ const CODING: &[Item] = &[
     DroppedShift,
     Characters,
     Characters,
+    Accents,
+    Position,
     Interrupted,
     Interrupted,
     Command,
@@ -229,6 +281,37 @@ const POLYGONS: &[Item] = &[
     SelectColour,
     OperandsByMacro,
     Characters,
+];
+const TEXT: &[Item] = &[
+    Text,
+    Text,
+    Text,
+    Lines,
+    Lines,
+    FullLine,
+    FullLine,
+    FullLine,
+    Effectors,
+    Effectors,
+    Effectors,
+    Accents,
+    Captions,
+    Captions,
+    Captions,
+    Position,
+    Position,
+    PositionByMacro,
+    Characters,
+    Interrupted,
+    Command,
+    Polygon,
+    Domain,
+    SetColour,
+    Control,
+    CloseSequence,
+    Define,
+    Call,
+    Call,
 ];
 const NOISE: &[Item] = &[
     Noise, Noise, Noise, Noise, Designate, Domain, Command, Define,
@@ -264,6 +347,7 @@ struct Generator {
     sets: Sets,
     single: usize,
     multi: usize,
+    three_dimensions: bool,
     levels: [u8; NAMES],
     bodies: Vec<Body>,
     cells: usize,
@@ -282,6 +366,7 @@ impl Generator {
             sets: FRESH,
             single: 1,
             multi: 3,
+            three_dimensions: false,
             levels,
             bodies: vec![Body::default(); NAMES],
             cells: 0,
@@ -317,7 +402,8 @@ impl Generator {
         use Theme::*;
         self.random.pick(&[
             Everything, Everything, Everything, Everything, Drawing, Drawing, Drawing, Macros,
-            Macros, Macros, Coding, Coding, Store, Polygons, Polygons, Noise,
+            Macros, Macros, Coding, Coding, Store, Polygons, Polygons, Text, Text, Text, Text,
+            Text, Noise,
         ])
     }
 
@@ -343,21 +429,23 @@ impl Generator {
             Domain => self.domain(),
             StrayData => self.stray_data(),
             Characters => self.characters(),
+            Text => self.text(),
+            Lines => self.lines(),
+            FullLine => self.full_line(),
+            Effectors => self.effectors(),
+            Accents => self.accents(),
+            Captions => self.captions(),
+            Position => self.position(),
+            PositionByMacro => self.position_by_macro(),
             Control => self.control(),
             Idle => self.idle(),
             Designate => self.designate_any(),
             Ignored => self.ignored(),
             DroppedSequence => self.dropped_sequence(),
-            LockingShift => {
-                let g = self.random.below(4);
-                self.lock(g);
-            }
+            LockingShift => self.lock_any(),
             SingleShift => self.single_shift(),
             DroppedShift => self.dropped_shift(),
-            CloseSequence => {
-                let last = self.random.byte(0x45, 0x5F);
-                self.escape(&[last]);
-            }
+            CloseSequence => self.close_sequence(),
             Define => self.define(),
             DefineMany => self.define_many(),
             Chain => self.chain(),
@@ -432,6 +520,11 @@ impl Generator {
         }
         self.sets.in_use = Some(g);
         self.shifts();
+    }
+
+    fn lock_any(&mut self) {
+        let g = self.random.below(4);
+        self.lock(g);
     }
 
     fn in_use(&self) -> u8 {
@@ -531,10 +624,7 @@ impl Generator {
                 self.shift_to(PDI);
                 self.data(1);
             }
-            8 => {
-                let g = self.random.below(4);
-                self.lock(g);
-            }
+            8 => self.lock_any(),
             _ if self.writing.is_none() => {
                 let name = self.any_name();
                 let length = self.random.range(0, 4);
@@ -580,6 +670,7 @@ impl Generator {
         self.put(0x21);
         self.put(0x40 | (length as u8 - 1) << 2);
         (self.single, self.multi) = (1, length);
+        self.three_dimensions = false;
         self.shifts();
     }
 
@@ -600,6 +691,7 @@ impl Generator {
         self.put(byte);
         self.single = usize::from(byte & 3) + 1;
         self.multi = usize::from(byte >> 2 & 7) + 1;
+        self.three_dimensions = byte & 0x20 != 0;
         self.shifts();
         let count = self.random.pick(&[0, 0, 1, 1, 1, 2]);
         self.operands(count);
@@ -638,6 +730,10 @@ impl Generator {
         let set = self.random.pick(&[PRIMARY, SUPPLEMENTARY, MOSAIC, DRCS]);
         self.use_set(set);
         let count = self.random.pick(&[1, 2, 5, 40]);
+        self.codes(count);
+    }
+
+    fn codes(&mut self, count: usize) {
         for _ in 0..count {
             let code = match self.random.chance(6) {
                 true => 0x7F,
@@ -679,10 +775,11 @@ impl Generator {
 
     /// A control that drops a pending shift or sequence.
     fn dropping(&mut self) {
-        match self.random.below(4) {
+        match self.random.below(5) {
             0 => self.idle(),
             1 => self.control(),
             2 => self.single_shift(),
+            3 => self.position(),
             _ => {
                 let g = self.random.below(2);
                 self.lock(g);
@@ -747,8 +844,18 @@ impl Generator {
         }
     }
 
+    /// An escape sequence that closes the open command.
+    fn close_sequence(&mut self) {
+        let last = self.random.byte(0x45, 0x5F);
+        self.escape(&[last]);
+    }
+
     fn noise(&mut self) {
         for _ in 0..self.random.range(1, 40) {
+            if self.random.below(60) == 0 {
+                self.position();
+                continue;
+            }
             let byte = match self.random.below(10) {
                 0 => self.random.byte(0x00, 0x06),
                 1 => self.recorded_control(),
@@ -760,6 +867,307 @@ impl Generator {
         }
         self.sets.in_use = None;
         self.shifts();
+    }
+
+    // Text.
+
+    fn text(&mut self) {
+        if self.random.chance(20) {
+            self.domain();
+        }
+        let (first, second) = (self.random.byte(0x40, 0x7F), self.random.byte(0x40, 0x7F));
+        self.use_pdi();
+        self.put(0x22);
+        let bytes = self.random.pick(&[0, 1, 2, 2, 2, 2, 2, 2, 2, 2]);
+        self.bytes.extend(&[first, second][..bytes]);
+        if bytes == 2 && self.random.chance(75) {
+            let (dx, dy) = (self.extent(), self.extent());
+            self.field(dx, dy);
+            self.after_field();
+        }
+    }
+
+    /// The field is cut, or more than the field comes.
+    fn after_field(&mut self) {
+        match self.random.below(10) {
+            0 | 1 => {
+                let cut = self.random.range(1, self.multi);
+                self.bytes.truncate(self.bytes.len() - cut);
+            }
+            2 => {
+                let count = self.random.range(1, 5);
+                self.data(count);
+            }
+            _ => {}
+        }
+    }
+
+    /// One side of a character field, as a signed number of units.
+    fn extent(&mut self) -> i32 {
+        let extent = match self.random.below(12) {
+            0 => 0,
+            1 => 256 * self.random.range(1, 3) as i64,
+            2 => SIDE,
+            3 => SIDE - 256,
+            4 => self.random.range(1 << 29, SIDE as usize) as i64,
+            5 => self.random.bits() as u32 as i32 as i64,
+            6..=8 => SIDE >> self.random.range(1, 6),
+            _ => SIDE / self.random.range(8, 200) as i64,
+        };
+        let negative = extent == SIDE || self.random.chance(25);
+        if negative {
+            -extent as i32
+        } else {
+            extent as i32
+        }
+    }
+
+    /// A multi-value operand with these coordinates, as far as its bits go.
+    fn field(&mut self, dx: i32, dy: i32) {
+        let bits = if self.three_dimensions { 2 } else { 3 };
+        for place in 1..=self.multi as u32 {
+            let part = |side: i32| (side as u32 >> (32 - bits * place)) as u8 & ((1 << bits) - 1);
+            let rest = match self.three_dimensions {
+                true => self.random.byte(0, 3),
+                false => 0,
+            };
+            self.put(0x40 | part(dx) << (6 - bits) | part(dy) << (6 - 2 * bits) | rest);
+        }
+    }
+
+    /// Characters, mostly enough to fill lines.
+    fn lines(&mut self) {
+        let set = self
+            .random
+            .pick(&[PRIMARY, PRIMARY, MOSAIC, DRCS, SUPPLEMENTARY]);
+        self.use_set(set);
+        let count = self.random.pick(&[10, 26, 41, 90]);
+        self.codes(count);
+        if self.random.chance(50) {
+            self.effectors();
+        }
+    }
+
+    /// A line from its first place to its last, and feeds after it.
+    fn full_line(&mut self) {
+        let line = match self.random.chance(30) {
+            true => self.default_line(),
+            false => self.wide_line(),
+        };
+        let count = line + self.random.pick(&[0, 1, 1, 1, 1, 2]) - 1;
+        let tabs = self.random.pick(&[0, 0, 50, 100]);
+        self.use_set(PRIMARY);
+        for _ in 0..count {
+            match self.random.chance(tabs) {
+                true => self.put(APF),
+                false => self.put(b'a'),
+            }
+        }
+        self.feeds();
+    }
+
+    /// The default field at the beginning of a row; answers how many
+    /// characters fill it.
+    fn default_line(&mut self) -> usize {
+        let row = self.random.byte(0x40, 0x5F);
+        self.bytes.extend([NSR, row, 0x40]);
+        self.reset();
+        40
+    }
+
+    /// A field that is a large part of the screen, at the first place of its
+    /// path; answers how many characters fill the line.
+    fn wide_line(&mut self) -> usize {
+        let (first, second) = (self.random.byte(0x40, 0x7F), self.random.byte(0x40, 0x7F));
+        let bits = if self.three_dimensions { 2 } else { 3 };
+        let least = (bits * self.multi - 1).min(4);
+        let (width, height) = (self.random.range(1, least), self.random.range(1, least));
+        self.use_set(PDI);
+        self.bytes.extend([0x22, first, second]);
+        self.field((SIDE >> width) as i32, (SIDE >> height) as i32);
+        self.put(APR);
+        // Whether the path is upright, and whether the field is turned.
+        let along = match (first & 8 != 0) != (first & 1 != 0) {
+            true => height,
+            false => width,
+        };
+        let spacing = [4, 5, 6, 4][usize::from(first >> 4 & 3)];
+        let places = 4 * ((1 << along) - 1) / spacing;
+        places + 1
+    }
+
+    /// Returns and feeds after a full line, sometimes with things between.
+    fn feeds(&mut self) {
+        let feeds = self.random.pick(&FEEDS);
+        let between = self.random.pick(&[0, 30, 50]);
+        for &feed in feeds {
+            if self.random.chance(between) {
+                self.between_feeds();
+            }
+            self.put(feed);
+        }
+        if self.random.chance(50) {
+            self.use_set(PRIMARY);
+            self.put(b'z');
+        }
+    }
+
+    fn between_feeds(&mut self) {
+        match self.random.below(12) {
+            0 => self.idle(),
+            1 => self.put(0x07),
+            2 => self.control(),
+            3 => self.accent(),
+            4 => self.command(),
+            5 => self.text(),
+            6 => self.set_colour(),
+            7 => self.domain(),
+            8 => self.call_any(),
+            9 => self.lock_any(),
+            10 => {
+                self.use_set(PRIMARY);
+                self.put(0x7F);
+            }
+            _ => {
+                let effector = self.random.pick(&EFFECTORS);
+                self.put(effector);
+            }
+        }
+    }
+
+    fn effectors(&mut self) {
+        if self.random.chance(30) {
+            self.feeds();
+            return;
+        }
+        // One kind repeated, or all sorts.
+        let one = self.random.pick(&EFFECTORS);
+        let alike = self.random.chance(30);
+        for _ in 0..self.random.pick(&[1, 1, 2, 3, 6, 30]) {
+            let any = self.random.pick(&EFFECTORS);
+            self.put(if alike { one } else { any });
+        }
+    }
+
+    fn accent(&mut self) {
+        self.shift_to(SUPPLEMENTARY);
+        let accent = self.random.byte(0x40, 0x4F);
+        self.put(accent);
+    }
+
+    /// Accents by single shifts, or among other characters of their set.
+    fn accents(&mut self) {
+        if self.random.chance(50) {
+            self.use_set(PRIMARY);
+            for _ in 0..self.random.range(1, 6) {
+                self.accent();
+                let letters = self.random.range(0, 2);
+                self.codes(letters);
+            }
+        } else {
+            self.use_set(SUPPLEMENTARY);
+            for _ in 0..self.random.range(1, 50) {
+                let code = self.random.byte(0x3C, 0x54);
+                self.put(code);
+            }
+        }
+    }
+
+    /// Drawing and text by turns.
+    fn captions(&mut self) {
+        if self.random.chance(80) {
+            self.text();
+        }
+        for _ in 0..self.random.range(1, 5) {
+            match self.random.below(4) {
+                0 => self.polygon(),
+                1 => self.any_opcode(),
+                _ => self.command(),
+            }
+            match self.random.below(6) {
+                0 => self.effectors(),
+                1 => self.accent(),
+                2 => self.position(),
+                _ => self.characters(),
+            }
+        }
+    }
+
+    /// APS or NSR; seldom with a byte that is refused.
+    fn position(&mut self) {
+        let control = self.random.pick(&[APS, APS, NSR]);
+        self.put(control);
+        if control == NSR {
+            self.reset();
+        }
+        for _ in 0..2 {
+            let byte = self.address();
+            self.put(byte);
+        }
+    }
+
+    /// A row or column byte.
+    fn address(&mut self) -> u8 {
+        match self.random.below(400) {
+            0 => self.random.byte(0x00, 0x3F),
+            1..=250 => self.random.byte(0x40, 0x60),
+            _ => self.random.byte(0x40, 0x7F),
+        }
+    }
+
+    /// What NSR resets.
+    fn reset(&mut self) {
+        self.sets = FRESH;
+        (self.single, self.multi, self.three_dimensions) = (1, 3, false);
+        self.shifts();
+    }
+
+    /// APS or NSR that begins in a body, in the innermost of two if there are
+    /// two names for them, and goes on wherever bytes come from next.
+    fn position_by_macro(&mut self) {
+        if self.writing.is_some() {
+            return;
+        }
+        let control = self.random.pick(&[APS, NSR]);
+        let position = [control, self.address(), self.address()];
+        let inner = self.random.range(1, 3);
+        let outer = self.random.range(inner, 3);
+        let count = self.random.range(1, 2);
+        let names = self.ladder(count);
+        let mut callee = None;
+        for &name in &names {
+            let part = match callee {
+                None => 0..inner,
+                Some(_) => inner..outer,
+            };
+            self.define_name(name, |body| body.part_of_position(callee, &position[part]));
+            callee = Some(name);
+        }
+        self.designate(2, MACRO);
+        let Some(outermost) = callee else {
+            return;
+        };
+        self.bytes.extend([SINGLE_SHIFTS[0], outermost]);
+        let read = if names.len() == 1 { inner } else { outer };
+        self.bytes.extend(&position[read..]);
+        self.sets = UNKNOWN;
+        if control == NSR {
+            self.reset();
+        }
+    }
+
+    /// A body that calls another, then has some bytes of a position.
+    fn part_of_position(&mut self, callee: Option<u8>, part: &[u8]) {
+        match callee {
+            Some(callee) => {
+                self.bytes.extend([SINGLE_SHIFTS[0], callee]);
+                if let Some(body) = &mut self.writing {
+                    body.calls.push(callee);
+                }
+            }
+            None => self.body_items(1),
+        }
+        self.bytes.extend(part);
     }
 
     // Macros.
@@ -844,7 +1252,7 @@ impl Generator {
         self.bodies[index] = Body::default();
 
         let outside = std::mem::take(&mut self.bytes);
-        let (sets, lengths) = (self.sets, (self.single, self.multi));
+        let (sets, lengths) = (self.sets, self.lengths());
         self.writing = Some(Body::default());
         self.level = self.level_of(name);
         self.sets = UNKNOWN;
@@ -852,7 +1260,7 @@ impl Generator {
         let mut body = self.writing.take().unwrap_or_default();
         self.level = LEVELS;
         self.sets = sets;
-        (self.single, self.multi) = lengths;
+        (self.single, self.multi, self.three_dimensions) = lengths;
         let mut bytes = std::mem::replace(&mut self.bytes, outside);
 
         bytes.truncate((CELLS - self.cells) * CELL);
@@ -861,6 +1269,10 @@ impl Generator {
         self.cells += bytes.len().div_ceil(CELL);
         self.bodies[index] = body;
         self.bytes.extend_from_slice(&bytes);
+    }
+
+    fn lengths(&self) -> (usize, usize, bool) {
+        (self.single, self.multi, self.three_dimensions)
     }
 
     fn body_items(&mut self, most: usize) {
@@ -874,6 +1286,10 @@ impl Generator {
             Domain,
             StrayData,
             Characters,
+            Text,
+            Effectors,
+            Accents,
+            Position,
             Control,
             Idle,
             Designate,
@@ -1051,24 +1467,59 @@ impl Generator {
             let name = self.any_name();
             self.escape(&[0x40, name, 0x41]);
         }
+        if self.random.chance(20) {
+            self.begun_position();
+        }
         let byte = self.random.byte(0x80, 0xFF);
         self.put(byte);
     }
 
     fn refused_code(&mut self) {
-        let control = self.random.pick(&[0x1C, 0x1F]);
         let last = self.random.byte(0x41, 0x44);
         let name = self.any_name();
-        match self.random.below(4) {
-            0 => self.put(control),
-            1 => self.escape(&[last]),
-            2 => self.escape(&[0x40, name, 0x41, ESC, last]),
-            _ => {
-                self.escape(&[0x40, name, control, ESC, 0x45]);
+        match self.random.below(5) {
+            0 => self.escape(&[last]),
+            1 => self.escape(&[0x40, name, 0x41, ESC, last]),
+            2 => {
+                self.begun_position();
+                self.refused_address();
+            }
+            3 => {
+                self.escape(&[0x40, name]);
+                self.begun_position();
+                self.refused_address();
+                self.escape(&[0x45]);
                 self.shift_to(MACRO);
                 self.put(name);
             }
+            _ => {
+                self.escape(&[0x40, name]);
+                self.begun_position();
+                self.escape(&[0x45]);
+                self.shift_to(MACRO);
+                self.put(name);
+                self.refused_address();
+            }
         }
+    }
+
+    /// APS or NSR, without its column byte or without both.
+    fn begun_position(&mut self) {
+        let control = self.random.pick(&[APS, NSR]);
+        self.put(control);
+        if self.random.chance(50) {
+            let row = self.random.byte(0x40, 0x7F);
+            self.put(row);
+        }
+    }
+
+    /// A row or column byte below 4/0.
+    fn refused_address(&mut self) {
+        let any = self.random.byte(0x00, 0x3F);
+        let byte = self
+            .random
+            .pick(&[0x00, 0x18, ESC, APS, 0x3F, any, any, any]);
+        self.put(byte);
     }
 
     /// A body that ends in ESC is called by one that goes on with 4/0.
@@ -1122,13 +1573,17 @@ impl Generator {
 
     fn unfinished(&mut self) {
         let name = self.any_name();
-        let ends: [&[u8]; 6] = [
+        let ends: [&[u8]; 10] = [
             &[ESC],
             &[ESC, 0x28],
             &[ESC, 0x40],
             &[ESC, 0x40, name],
             &[ESC, 0x40, name, 0x41],
             &[ESC, 0x40, name, ESC],
+            &[APS],
+            &[APS, 0x40],
+            &[NSR],
+            &[NSR, 0x7F],
         ];
         let end = self.random.pick(&ends);
         self.bytes.extend_from_slice(end);
@@ -1152,6 +1607,7 @@ fn items_of(theme: Theme) -> &'static [Item] {
         Theme::Coding => CODING,
         Theme::Store => STORE_ITEMS,
         Theme::Polygons => POLYGONS,
+        Theme::Text => TEXT,
         Theme::Noise => NOISE,
     }
 }
@@ -1192,6 +1648,23 @@ mod tests {
             most = most.max(vertices);
         }
         most
+    }
+
+    #[test]
+    fn text_is_common() {
+        let pages: Vec<String> = (0..2000)
+            .map(|number| String::from_utf8(listing(&page(1, number))).unwrap())
+            .collect();
+        // The kind and code of TEXT, APS and NSR, and of each format effector.
+        let codes = [(9, 0x22), (7, APS), (7, NSR)].into_iter();
+        for (kind, code) in codes.chain(EFFECTORS.map(|code| (7, code))) {
+            let has = |line: &str| {
+                let mut fields = line.split(' ').map(str::parse);
+                fields.next() == Some(Ok(kind)) && fields.nth(6) == Some(Ok(code))
+            };
+            let found = pages.iter().filter(|page| page.lines().any(has)).count();
+            assert!(found > 200, "{found} pages with kind {kind}, code {code}");
+        }
     }
 
     #[test]

@@ -22,10 +22,14 @@ pub enum BenchKind {
     Mixed,
     /// Polygons of the most vertices.
     Polygons,
+    /// Full lines, each with APR APD after it.
+    Text,
+    /// Ten characters at a place and of a size of their own, again and again.
+    Captions,
 }
 
 /// The kinds and their names.
-pub const KINDS: [(&str, BenchKind); 8] = [
+pub const KINDS: [(&str, BenchKind); 10] = [
     ("point-set", BenchKind::PointSet),
     ("line", BenchKind::Line),
     ("characters", BenchKind::Characters),
@@ -34,10 +38,16 @@ pub const KINDS: [(&str, BenchKind); 8] = [
     ("definitions", BenchKind::Definitions),
     ("mixed", BenchKind::Mixed),
     ("polygons", BenchKind::Polygons),
+    ("text", BenchKind::Text),
+    ("captions", BenchKind::Captions),
 ];
 
 const ESC: u8 = 0x1B;
 const SHIFT_OUT: u8 = 0x0E;
+const SHIFT_IN: u8 = 0x0F;
+const APD: u8 = 0x0A;
+const APR: u8 = 0x0D;
+const APH: u8 = 0x1E;
 const SINGLE_SHIFT: u8 = 0x19;
 const MACRO_TO_G0: [u8; 3] = [ESC, 0x28, 0x7A];
 const MACRO_TO_G2: [u8; 3] = [ESC, 0x2A, 0x7A];
@@ -57,7 +67,8 @@ fn beginning(kind: BenchKind) -> Vec<u8> {
     match kind {
         BenchKind::PointSet => vec![SHIFT_OUT, 0x24],
         BenchKind::Line => vec![SHIFT_OUT, 0x28],
-        BenchKind::Characters | BenchKind::Definitions => Vec::new(),
+        BenchKind::Characters | BenchKind::Definitions | BenchKind::Captions => Vec::new(),
+        BenchKind::Text => vec![APH],
         BenchKind::Nested => nested_bodies(),
         BenchKind::Calls => MACRO_TO_G0.to_vec(),
         BenchKind::Mixed | BenchKind::Polygons => vec![SHIFT_OUT],
@@ -105,7 +116,29 @@ fn item(kind: BenchKind, random: &mut Random, page: &mut Vec<u8>) {
             let start = usize::from(opcode >= 0x36);
             data(3 * (start + usize::from(MOST_VERTICES) - 1), random, page);
         }
+        BenchKind::Text => {
+            characters(40, random, page);
+            page.extend([APR, APD]);
+        }
+        BenchKind::Captions => caption(random, page),
     }
+}
+
+fn caption(random: &mut Random, page: &mut Vec<u8>) {
+    page.extend([SHIFT_OUT, 0x24]);
+    data(3, random, page);
+    // Any spacing and interrow spacing, the rest as at first; sides from 1/32
+    // to 1/16.
+    let spacing = random.byte(0, 3);
+    let interrow = random.byte(0, 3);
+    page.extend([0x22, 0x40 | spacing << 4, 0x40 | interrow]);
+    page.extend([0x40, 0x49, random.byte(0x40, 0x7F)]);
+    page.push(SHIFT_IN);
+    characters(10, random, page);
+}
+
+fn characters(count: usize, random: &mut Random, page: &mut Vec<u8>) {
+    page.extend((0..count).map(|_| random.byte(0x20, 0x7E)));
 }
 
 fn data(count: usize, random: &mut Random, page: &mut Vec<u8>) {

@@ -1,5 +1,5 @@
-//! A reader of 7-bit videotex pages: code sets, macros, domain, colour and
-//! drawing opcodes.
+//! A reader of 7-bit videotex pages: code sets, macros, domain, colour, text
+//! and drawing opcodes.
 //!
 //! A page is read by [`open`], any number of [`feed`] calls and [`end`]. The
 //! caller lends the macro store, each piece of the page and an output buffer;
@@ -23,6 +23,7 @@ pub mod random;
 mod record;
 mod session;
 mod store;
+mod text;
 
 pub use colour::Grb;
 pub use record::{RECORD, ROOM};
@@ -40,7 +41,7 @@ pub enum Number {
     ByteOver127 = 3,
     /// A macro name below 2/0.
     NameBelow = 4,
-    /// ESC 4/1 to 4/4, 1/12 or 1/15.
+    /// ESC 4/1 to 4/4, or a row or column byte below 4/0.
     Unsupported = 5,
     /// The 4/0 of ESC 4/0 read from a body.
     DefinitionInBody = 6,
@@ -49,7 +50,8 @@ pub enum Number {
     TooDeep = 8,
     /// Vertex 413.
     TooManyVertices = 9,
-    /// End inside an escape sequence or definition.
+    /// End inside an escape sequence or definition, or with a row or column
+    /// byte due.
     Unfinished = 10,
     /// End with body bytes left.
     BodyLeft = 11,

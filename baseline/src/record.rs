@@ -125,6 +125,14 @@ impl<'a> Output<'a> {
         &mut self.free.as_chunks_mut().0[..steps]
     }
 
+    /// The same inside a step that has found room and may have written two
+    /// records: the first slot is its own.
+    #[inline]
+    pub fn slots_in_step(&mut self) -> &mut [Slot] {
+        let steps = self.free.len().saturating_sub(ROOM) / RECORD + 1;
+        &mut self.free.as_chunks_mut().0[..steps]
+    }
+
     /// Passes the slots that were filled.
     #[inline]
     pub fn advance(&mut self, filled: usize) {

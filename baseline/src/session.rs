@@ -2,12 +2,14 @@
 
 use crate::coding::{
     designated, designated_set, two_byte_final, Coding, Control, Final, Set, CONTROLS, DEFINE,
-    DELETE, END_DEFINITION, ESC, G,
+    END_DEFINITION, ESC, FIRST_SETS, G,
 };
 use crate::colour::Grb;
 use crate::drawing::Drawing;
+use crate::operand::is_data;
 use crate::record::{Kind, Output};
 use crate::store::{self, Cells, Filling, Place};
+use crate::text::Positioning;
 use crate::{Answer, Number};
 
 /// Nested bodies.
@@ -59,7 +61,7 @@ impl Session {
             status: Status::Running,
             budget,
             steps: 0,
-            sets: [Set::Primary, Set::Pdi, Set::Supplementary, Set::Mosaic],
+            sets: FIRST_SETS,
             in_use: 0,
             coding: Coding::Plain,
             drawing: Drawing::new(),
@@ -286,6 +288,7 @@ impl Session {
                         self.graphic(set, input, output)?
                     }
                     Coding::Shifted(g) => self.shifted(g, input, output)?,
+                    Coding::Row(_) | Coding::Column(..) => self.position(input)?,
                     _ => self.escape(input, from_body, output)?,
                 },
                 _ => return Err(Number::ByteOver127),
@@ -301,6 +304,9 @@ impl Session {
     /// A byte of columns 0 and 1, which drops a pending shift or sequence.
     #[inline]
     fn control(&mut self, input: &mut &[u8], output: &mut Output) -> Result<Pause, Number> {
+        if self.coding.is_position() {
+            return Err(Number::Unsupported);
+        }
         let byte = input[0];
         let mut coding = Coding::Plain;
         match CONTROLS[usize::from(byte & 31)] {
@@ -308,13 +314,55 @@ impl Session {
             Control::LockingShift(g) => self.in_use = g,
             Control::SingleShift(g) => coding = Coding::Shifted(g),
             Control::Escape => coding = Coding::Escape,
-            Control::Refused => return Err(Number::Unsupported),
-            Control::Recorded => {
-                self.drawing.close(output)?;
-                self.drawing.write_code(Kind::Control, byte, output);
+            Control::Recorded => self.recorded(byte, output)?,
+            Control::Format(effector) => {
+                self.recorded(byte, output)?;
+                self.drawing.format(effector);
+            }
+            Control::Position(by) => {
+                self.recorded(byte, output)?;
+                self.begin_position(by);
+                coding = Coding::Row(by);
             }
         }
         self.coding = coding;
+        *input = &input[1..];
+        Ok(Pause::Go)
+    }
+
+    /// Closes the open command and writes the record of a control.
+    #[inline]
+    fn recorded(&mut self, byte: u8, output: &mut Output) -> Result<(), Number> {
+        self.drawing.close(output)?;
+        self.drawing.write_code(Kind::Control, byte, output);
+        Ok(())
+    }
+
+    /// APS or NSR, before its row byte; NSR resets.
+    #[inline(never)]
+    fn begin_position(&mut self, by: Positioning) {
+        self.drawing.begin_position(by);
+        if by == Positioning::Nsr {
+            self.sets = FIRST_SETS;
+            self.in_use = 0;
+        }
+    }
+
+    /// A row or column byte of columns 2 to 7, read raw.
+    #[inline(never)]
+    fn position(&mut self, input: &mut &[u8]) -> Result<Pause, Number> {
+        let byte = input[0];
+        if !is_data(byte) {
+            return Err(Number::Unsupported);
+        }
+        self.coding = match self.coding {
+            Coding::Row(by) => Coding::Column(by, byte),
+            Coding::Column(by, row) => {
+                self.drawing.position(by, row, byte);
+                Coding::Plain
+            }
+            other => other,
+        };
         *input = &input[1..];
         Ok(Pause::Go)
     }
@@ -387,29 +435,19 @@ impl Session {
     }
 
     /// Characters of a set. The first closes the open command.
+    #[inline(never)]
     fn characters(
         &mut self,
         set: Set,
         input: &mut &[u8],
         output: &mut Output,
     ) -> Result<(), Number> {
-        // The code past the last character of the set.
-        let past = match set {
-            Set::Primary | Set::Supplementary => DELETE,
-            _ => DELETE + 1,
-        };
-        let first = input[0];
-        if first >= past {
+        if set.has(input[0]) {
+            self.drawing.close(output)?;
+            self.drawing.characters(set, input, output);
+        } else {
             *input = &input[1..];
-            return Ok(());
         }
-        self.drawing.close(output)?;
-        self.drawing.write_character(set as u8, first, output);
-        *input = &input[1..];
-        let written = self
-            .drawing
-            .write_characters(set as u8, past, input, output);
-        *input = &input[written..];
         Ok(())
     }
 

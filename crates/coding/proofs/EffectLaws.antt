@@ -3,12 +3,12 @@
 use Rattle.coding.specs.Prelude.{_≡_, refl, Bool, true, false, List, _⊎_, inl, inr, ℕ, _≤_, ltb-false, ltb, eqb}
 use Rattle.rules.proofs.Bools.{pick-all, pick-by}
 use Rattle.rules.specs.declared.Action.{Action}
-use Rattle.rules.specs.declared.Action.the-variants.{Idle}
+use Rattle.rules.specs.declared.Action.the-variants.{Idle, Position}
 use Rattle.rules.specs.declared.Class.{Class}
 use Rattle.rules.specs.declared.Class.the-variants.{Below, Column2, Above}
 use Rattle.rules.specs.declared.Coding.{Coding}
 use Rattle.rules.specs.declared.Control.{Control}
-use Rattle.rules.specs.declared.Control.the-variants.{Ignored, Locks, Shifts, Escapes, Barred, Recorded}
+use Rattle.rules.specs.declared.Control.the-variants.{Ignored, Locks, Shifts, Escapes, Recorded, Formats, Positions}
 use Rattle.rules.specs.declared.Definition.{Definition}
 use Rattle.rules.specs.declared.Designated.{Designated}
 use Rattle.rules.specs.declared.Designated.the-variants.{Names, Unassigned}
@@ -20,10 +20,10 @@ use Rattle.rules.specs.declared.Inner.the-variants.{OpensNext, Bars, EndsBody, 
 use Rattle.rules.specs.declared.Set.{Set}
 use Rattle.rules.specs.declared.Set.the-variants.{Characters, Pdi, Macro}
 use Rattle.rules.specs.declared.Waiting.{Waiting}
-use Rattle.rules.specs.declared.Waiting.the-variants.{Nothing, Shifted, Escape, Designator, Longer, Name, Body, BodyEscape}
+use Rattle.rules.specs.declared.Waiting.the-variants.{Nothing, Shifted, Escape, Designator, Longer, Name, Body, BodyEscape, Row, Column}
 use Rattle.rules.specs.Numbers.{esc}
 use Rattle.rules.specs.Store.{firstOf, Freeing, NotFreed, Freed, freeBody, Storing, NotStored, Stored, storeByte, storeEscapeAnd}
-use Rattle.rules.specs.Coding.{Reaction, Refuse, Call, React, setOf, shiftedTo, wait, named, openBody, keep, filling, inBody, innerOf, inBodyEscape, finalOf, escape, designatedBy, designation, control, graphic, classOf, reactTo, react}
+use Rattle.rules.specs.Coding.{Reaction, Refuse, Call, React, setOf, shiftedTo, wait, named, openBody, keep, filling, inBody, innerOf, inBodyEscape, finalOf, escape, designatedBy, designation, control, addressByte, graphic, classOf, reactTo, react}
 use Rattle.store.specs.Lent.{IsName}
 use Rattle.coding.specs.View.{codingOf, effectOn, setsAfter, reactionOf}
 use Rattle.coding.specs.declared.reactions.Effect.{Effect}
@@ -55,8 +55,14 @@ module _ (c : Coding) (st : List ℕ) (b : ℕ) where
   control-told (Locks e) = inl (refl, refl)
   control-told (Shifts s) = inl (refl, refl)
   control-told Escapes = inl (refl, refl)
-  control-told Barred = tt
   control-told Recorded = inl (refl, refl)
+  control-told (Formats f) = inl (refl, refl)
+  control-told (Positions x) = inl (refl, refl)
+
+  -- A row or column byte is refused or leaves them as they are
+  address-told : (w : Waiting) (a : Action) → Told c st b (addressByte b (React (wait w c) st a))
+  unfolding addressByte
+  address-told w a = pick-all (Told c st b) (ltb b 64) tt (inl (refl, refl))
 
   graphic-told : (x : Set) → IsName b → Told c st b (graphic x (wait Nothing c) st b)
   unfolding graphic
@@ -123,6 +129,8 @@ module _ (c : Coding) (st : List ℕ) (b : ℕ) where
   waiting-told Name Above h = named-told (freeBody (firstOf (c .firsts) b) st)
   waiting-told (Body d) k h = body-told (eqb b esc) d
   waiting-told (BodyEscape d) k h = inner-told (innerOf b) d
+  waiting-told (Row x) k h = address-told (Column x b) Idle
+  waiting-told (Column x r) k h = address-told Nothing (Position x r b)
 
   pub told : Told c st b (react c st b)
   unfolding react

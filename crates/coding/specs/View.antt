@@ -4,12 +4,13 @@ use Rattle.rules.specs.declared.Element.{Element}
 use Rattle.rules.specs.declared.Set.{Set}
 use Rattle.rules.specs.declared.Sets.{Sets}
 use Rattle.rules.specs.declared.Waiting.{Waiting}
-use Rattle.rules.specs.declared.Waiting.the-variants.{Nothing, Shifted, Escape, Designator, Longer, Name, Body, BodyEscape}
+use Rattle.rules.specs.declared.Waiting.the-variants.{Nothing, Shifted, Escape, Designator, Longer, Name, Body, BodyEscape, Row, Column}
 use Rattle.rules.specs.declared.Class.{Class}
 use Rattle.rules.specs.declared.Class.the-variants.{Below, Column2, Above}
-use Rattle.rules.specs.declared.Action.the-variants.{Idle}
+use Rattle.rules.specs.declared.Action.{Action}
+use Rattle.rules.specs.declared.Action.the-variants.{Idle, Close, Control, Format, Reset, Position, Character, Opcode, Data}
 use Rattle.rules.specs.declared.Coding.{Coding}
-use Rattle.rules.specs.Coding.{Reaction, Refuse, Call, React, setOf, inUse, designate, shiftedTo, wait, control, graphic}
+use Rattle.rules.specs.Coding.{Reaction, Refuse, Call, React, setOf, inUse, designate, shiftedTo, wait, freshSets, control, graphic}
 use Rattle.coding.specs.declared.reactions.Effect.{Effect}
 use Rattle.coding.specs.declared.reactions.Effect.the-variants.{Refuses, Calls, Acts, Uses, Designates}
 use Rattle.coding.specs.declared.reactions.Reacted.{Reacted}
@@ -26,11 +27,23 @@ effectOn (Acts a) c st = React c st a
 effectOn (Uses e) c st = React c st Idle
 effectOn (Designates e x) c st = React c st Idle
 
+-- Of the actions NSR's alone resets the sets
+abbrev pub resetSets : Action → Sets → Sets
+resetSets Idle s = s
+resetSets Close s = s
+resetSets (Control b) s = s
+resetSets (Format f b) s = s
+resetSets (Reset b) s = freshSets
+resetSets (Position x r c) s = s
+resetSets (Character x b) s = s
+resetSets (Opcode b) s = s
+resetSets (Data b) s = s
+
 -- The sets after an effect
 abbrev pub setsAfter : Effect → Sets → Sets
 setsAfter (Refuses r) s = s
 setsAfter (Calls n) s = s
-setsAfter (Acts a) s = s
+setsAfter (Acts a) s = resetSets a s
 setsAfter (Uses e) s = inUse e s
 setsAfter (Designates e x) s = designate e x s
 
@@ -38,7 +51,7 @@ setsAfter (Designates e x) s = designate e x s
 abbrev pub reactionOf : Sets → Reacted → List ℕ → List ℕ → Reaction
 reactionOf s r f st = effectOn (r .effect) (codingOf (setsAfter (r .effect) s) (r .waiting) f) st
 
--- "A refused step changes nothing", and neither does a call or a change of the sets: what is left is what was lent
+-- "A refused step changes nothing", and neither does a call, an element put in use or a set designated: what is left is what was lent
 abbrev pub AsLentBy : Effect → List ℕ → List ℕ → Type 0
 AsLentBy (Refuses r) lent left = left ≡ lent
 AsLentBy (Calls n) lent left = left ≡ lent
@@ -59,6 +72,8 @@ elementRead Longer s = s .used
 elementRead Name s = s .used
 elementRead (Body d) s = s .used
 elementRead (BodyEscape d) s = s .used
+elementRead (Row x) s = s .used
+elementRead (Column x r) s = s .used
 
 -- and the set that it names
 abbrev pub setRead : Waiting → Sets → Set

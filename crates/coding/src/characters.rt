@@ -1,14 +1,13 @@
 // A byte that is read by itself: a control, or one of a set: a character, an opcode or its data, a macro name.
+use crate::positions::position;
 use crate::reactions::Reacted;
 use crate::reactions::act;
 use crate::reactions::call;
-use crate::reactions::refuse;
 use crate::reactions::use_element;
 use crate::reactions::wait_for;
 use rules::Action;
 use rules::Class;
 use rules::Control;
-use rules::Refusal;
 use rules::Set;
 use rules::Sets;
 use rules::Waiting;
@@ -28,8 +27,9 @@ pub(crate) fn control(k: Control, byte: u8) -> Reacted
         Control::Locks(element) => use_element(element),
         Control::Shifts(shift) => wait_for(Waiting::Shifted(shift)),
         Control::Escapes => wait_for(Waiting::Escape),
-        Control::Barred => refuse(Refusal::Unsupported),
         Control::Recorded => act(Action::Control(byte)),
+        Control::Formats(effector) => act(Action::Format(effector, byte)),
+        Control::Positions(positioning) => position(positioning, byte),
     }
 }
 

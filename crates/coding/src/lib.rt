@@ -2,6 +2,7 @@
 pub mod characters;
 pub mod defining;
 pub mod escapes;
+pub mod positions;
 pub mod reactions;
 
 use crate::characters::read_from;
@@ -11,6 +12,8 @@ use crate::defining::take_name;
 use crate::escapes::in_designation;
 use crate::escapes::in_escape;
 use crate::escapes::in_longer;
+use crate::positions::take_column;
+use crate::positions::take_row;
 use crate::reactions::Reacted;
 use crate::reactions::refuse;
 use rules::Element;
@@ -45,7 +48,8 @@ pub fn set_read(waiting: Waiting, sets: Sets) -> Set
     set_of(element, sets)
 }
 
-// A byte that would be read from the set. A definition is stored as it is read. Where the byte is refused, calls a name or changes the sets, first cells and store stay as lent.
+// A byte that would be read from the set. A definition is stored as it is read.
+// Where the byte is refused, calls a name, puts an element in use or designates a set, first cells and store stay as lent.
 pub fn react(
     set: Set,
     waiting: Waiting,
@@ -69,6 +73,8 @@ pub fn react(
         Waiting::Name => take_name(firsts, store, byte),
         Waiting::Body(definition) => in_body(definition, firsts, store, byte),
         Waiting::BodyEscape(definition) => in_body_escape(definition, firsts, store, byte),
+        Waiting::Row(positioning) => take_row(positioning, byte),
+        Waiting::Column(positioning, row) => take_column(positioning, row, byte),
         _ => read_from(set, byte),
     }
 }

@@ -2,6 +2,7 @@
 use rules::Action;
 use rules::Element;
 use rules::Refusal;
+use rules::Repertoire;
 use rules::Set;
 use rules::Sets;
 use rules::Waiting;
@@ -10,10 +11,10 @@ use tables::sets::in_use;
 ghost use mathlib.Core.List.{List};
 ghost use mathlib.Core.Path.{_≡_};
 ghost use Prim.Native.Nat.{ℕ};
-ghost use Rattle.rules.specs.Coding.{Refuse, Call, React, inUse, designate};
-ghost use Rattle.coding.specs.View.{codingOf, setsAfter, reactionOf, AsLent};
+ghost use Rattle.rules.specs.Coding.{Refuse, Call, React, freshSets, inUse, designate};
+ghost use Rattle.coding.specs.View.{codingOf, resetSets, setsAfter, reactionOf, AsLent};
 
-// The last two say what changes of the sets, which the others leave; they ask nothing of drawing.
+// The last two say what changes of the sets and ask nothing of drawing. Of the others only the action of NSR changes them.
 pub enum Effect {
     Refuses(Refusal),
     Calls(u8),
@@ -28,10 +29,33 @@ pub struct Reacted {
     pub waiting: Waiting,
 }
 
+fn fresh_sets() -> Sets
+    ensures { λ r. ⌜ r ≡ freshSets ⌝ }
+{
+    Sets {
+        g0: Set::Characters(Repertoire::Primary),
+        g1: Set::Pdi,
+        g2: Set::Characters(Repertoire::Supplementary),
+        g3: Set::Characters(Repertoire::Mosaic),
+        used: Element::G0,
+    }
+}
+
+// NSR resets the sets too.
+fn reset_sets(action: Action, sets: Sets) -> Sets
+    ensures { λ r. ⌜ r ≡ resetSets action sets ⌝ }
+{
+    match action {
+        Action::Reset(_) => fresh_sets(),
+        _ => sets,
+    }
+}
+
 pub fn sets_after(effect: Effect, sets: Sets) -> Sets
     ensures { λ r. ⌜ r ≡ setsAfter effect sets ⌝ }
 {
     match effect {
+        Effect::Acts(action) => reset_sets(action, sets),
         Effect::Uses(element) => in_use(element, sets),
         Effect::Designates(element, set) => designate(element, set, sets),
         _ => sets,
@@ -59,7 +83,7 @@ pub(crate) fn wait_for(waiting: Waiting) -> Reacted
 }
 
 pub(crate) fn act(action: Action) -> Reacted
-    ensures { λ r. ⌜ ((s : Sets) (f st : List ℕ) → reactionOf s r f st ≡ React (codingOf s Waiting.Nothing f) st action) ⌝ }
+    ensures { λ r. ⌜ ((s : Sets) (f st : List ℕ) → reactionOf s r f st ≡ React (codingOf (resetSets action s) Waiting.Nothing f) st action) ⌝ }
 {
     Reacted {
         effect: Effect::Acts(action),

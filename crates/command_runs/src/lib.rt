@@ -9,7 +9,9 @@ use drawing::data::role_due;
 use drawing::data::with_due;
 use drawing_runs::Ran;
 use drawing_runs::strokes::is_stroke;
-use figures::finishing::is_foreground;
+use figures::answers::moved_if;
+use figures::finishing::finishes_apart;
+use figures::tracing::either;
 use figures::tracing::put_figure;
 use figures::tracing::target;
 use figures::tracing::trace;
@@ -34,7 +36,7 @@ ghost use lib.ListN.{length};
 ghost use Rattle.rules.specs.declared.Role.{Role};
 ghost use Rattle.rules.specs.declared.Set.{Set};
 ghost use Rattle.rules.specs.Ranges.{domainFits, commandFits};
-ghost use Rattle.figures.specs.Tracing.{isForeground};
+ghost use Rattle.figures.specs.Tracing.{finishesApart};
 ghost use Rattle.drawing_runs.specs.Run.{ActsAs, RunsTo};
 ghost use Rattle.drawing_runs.specs.Strokes.{penAfter};
 ghost use Rattle.command_runs.specs.Asked.{asked};
@@ -59,11 +61,11 @@ fn leaves_strokes(opcode: u8, bytes: &[u8], place: usize, to: usize) -> bool
     is_stroke(opcode) && is_long(bytes, place, to)
 }
 
-// Whether a byte is an opcode or a recorded control, and the open command leaves the look.
+// Whether a byte is an opcode or a recorded control, and the open command finishes by a figure or none.
 fn opens(role: Role, byte: u8) -> bool
-    ensures { λ r. ⌜ (r ≡ true → (isForeground role ≡ false) × ActsAs Set.Pdi byte (asked byte)) ⌝ }
+    ensures { λ r. ⌜ (r ≡ true → (finishesApart role ≡ false) × ActsAs Set.Pdi byte (asked byte)) ⌝ }
 {
-    if is_foreground(role) {
+    if finishes_apart(role) {
         return false;
     }
     if byte < 32 {
@@ -88,24 +90,24 @@ fn drops(role: Role, byte: u8, count: usize) -> bool
     false
 }
 
-// The pen after so many bytes, the last point given.
-fn pen_after(count: usize, pen: Pen, point: Point) -> Pen
-    ensures { λ r. ⌜ r ≡ penAfter count pen point ⌝ }
+// The pen after so many bytes, with its point moved or not.
+fn pen_after(count: usize, moved: bool, pen: Pen, point: Point) -> Pen
+    ensures { λ r. ⌜ r ≡ penAfter count moved pen point ⌝ }
 {
     if count == 0 {
         return pen;
     }
-    resting(point)
+    resting(moved_if(moved, pen, point))
 }
 
-// What so many bytes leave, the pen lent and the last point given.
-fn after(count: usize, at: usize, pen: Pen, point: Point, command: Command) -> Ran
-    ensures { λ r. ⌜ r ≡ record { count = count; at = at; pen = penAfter count pen point; command = command } ⌝ }
+// What so many bytes leave of the pen lent, with its point moved or not.
+fn after(count: usize, at: usize, moved: bool, pen: Pen, point: Point, command: Command) -> Ran
+    ensures { λ r. ⌜ r ≡ record { count = count; at = at; pen = penAfter count moved pen point; command = command } ⌝ }
 {
     Ran {
         count,
         at,
-        pen: pen_after(count, pen, point),
+        pen: pen_after(count, moved, pen, point),
         command,
     }
 }
@@ -135,27 +137,29 @@ pub fn run_commands(
     let mut role = role_due(row, command);
     let mut place = from;
     let mut at = at;
+    let mut moved = false;
     let mut point = pen.point;
     let mut command = command;
     while place < to {
         if out.len() - at < ROOM_FOR_STEP {
-            return after(place - from, at, pen, point, command);
+            return after(place - from, at, moved, pen, point, command);
         }
         let byte = bytes[place];
         if byte < 64 {
             if !opens(role, byte) {
-                return after(place - from, at, pen, point, command);
+                return after(place - from, at, moved, pen, point, command);
             }
             let next = rows[row_place(byte)];
             let opened = open_next(byte, next, row, point, command, ink, pel, out, at);
             at = opened.at;
+            moved = either(moved, opened.moved);
             point = opened.point;
             command = opened.command;
             row = next;
             role = role_due(row, command);
             place += 1;
             if leaves_strokes(byte, bytes, place, to) {
-                return after(place - from, at, pen, point, command);
+                return after(place - from, at, moved, pen, point, command);
             }
             continue;
         }
@@ -163,7 +167,7 @@ pub fn run_commands(
         match whole {
             Whole::Cut => {
                 if !drops(role, byte, place - from) {
-                    return after(place - from, at, pen, point, command);
+                    return after(place - from, at, moved, pen, point, command);
                 }
                 place += 1;
                 continue;
@@ -172,6 +176,7 @@ pub fn run_commands(
                 let aimed = target(role, point, v);
                 let traced = trace(role, row, aimed.outside, aimed.point, point, command);
                 at = put_figure(traced.figure, ink, pel, out, at);
+                moved = true;
                 point = traced.point;
                 command = with_due(row, traced.command);
                 role = role_due(row, command);
@@ -180,5 +185,5 @@ pub fn run_commands(
             }
         }
     }
-    after(place - from, at, pen, point, command)
+    after(place - from, at, moved, pen, point, command)
 }

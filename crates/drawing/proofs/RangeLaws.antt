@@ -3,7 +3,7 @@ use Rattle.drawing.proofs.Prelude.{ℕ, _≤_, _<_, arith, _≡_, true,
 use Rattle.rules.specs.declared.Domain.{Domain}
 use Rattle.rules.specs.declared.Drawing.{Drawing}
 use Rattle.rules.specs.declared.Role.{Role}
-use Rattle.rules.specs.declared.Role.the-variants.{MoveTo, DrawTo, DrawBy, Middle, ArcEnd, Start, Edge, Lengths, Pel, Foreground, Background, Shade, Dropped}
+use Rattle.rules.specs.declared.Role.the-variants.{MoveTo, DrawTo, DrawBy, Middle, ArcEnd, Start, Edge, Lengths, Pel, TextFirst, TextSecond, TextField, TextMore, Foreground, Background, Shade, Dropped}
 use Rattle.rules.specs.Drawing.{rowOf, lengthOf, roleDue}
 use Rattle.rules.specs.Ranges.{domainFits, colourFits, commandFits, begunFits, drawingFits}
 use Rattle.rules.proofs.Bools.{and-left, and-right, by-test}
@@ -20,6 +20,10 @@ length-most Start o s m = m
 length-most Edge o s m = m
 length-most Lengths o s m = omega arith
 length-most Pel o s m = m
+length-most TextFirst o s m = omega arith
+length-most TextSecond o s m = omega arith
+length-most TextField o s m = m
+length-most TextMore o s m = omega arith
 length-most Foreground o s m = s
 length-most Background o s m = s
 length-most Shade o s m = m

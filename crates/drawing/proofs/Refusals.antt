@@ -1,14 +1,14 @@
 -- The drawing rules refuse with TooManyVertices only; closing refuses before it finishes.
 use Rattle.drawing.proofs.Prelude.{_≡_, refl, Bool, List, ℕ, suc, ltb, eqb}
 use Rattle.rules.specs.declared.Action.{Action}
-use Rattle.rules.specs.declared.Action.the-variants.{Idle, Close, Control, Character, Opcode, Data}
+use Rattle.rules.specs.declared.Action.the-variants.{Idle, Close, Control, Format, Reset, Position, Character, Opcode, Data}
 use Rattle.rules.specs.declared.Mode.{Mode}
 use Rattle.rules.specs.declared.Mode.the-variants.{Direct, Mapped, TwoColour}
 use Rattle.rules.specs.declared.Point.{Point}
 use Rattle.rules.specs.declared.Drawing.{Drawing}
 use Rattle.rules.specs.declared.Row.{Row}
 use Rattle.rules.specs.declared.Role.{Role}
-use Rattle.rules.specs.declared.Role.the-variants.{MoveTo, DrawTo, DrawBy, Middle, ArcEnd, Start, Edge, Lengths, Pel, Foreground, Background, Shade, Dropped}
+use Rattle.rules.specs.declared.Role.the-variants.{MoveTo, DrawTo, DrawBy, Middle, ArcEnd, Start, Edge, Lengths, Pel, TextFirst, TextSecond, TextField, TextMore, Foreground, Background, Shade, Dropped}
 use Rattle.rules.specs.declared.Refusal.the-variants.{TooManyVertices}
 use Rattle.rules.specs.Numbers.{mostVertices}
 use Rattle.rules.specs.Operands.{begun}
@@ -19,7 +19,7 @@ use Rattle.rules.proofs.Bools.{pick-all}
 use Rattle.rules.proofs.DrawingRanges.{finish-all}
 use Rattle.figures.proofs.Carrying.{Draws}
 
--- A refusal, if it is one, is that of vertex 257
+-- A refusal, if it is one, is that of a vertex too many
 abbrev pub OnlyVertices : Outcome → Type 0
 OnlyVertices (NotDrawn r) = r ≡ TooManyVertices
 OnlyVertices (Draw d rs) = Unit {0}
@@ -60,6 +60,10 @@ apply-vertices Start r bs d = tt
 apply-vertices Edge r bs d = edge-vertices (r .filled) _ d
 apply-vertices Lengths r bs d = tt
 apply-vertices Pel r bs d = tt
+apply-vertices TextFirst r bs d = tt
+apply-vertices TextSecond r bs d = tt
+apply-vertices TextField r bs d = tt
+apply-vertices TextMore r bs d = tt
 apply-vertices Foreground r bs d = tt
 apply-vertices Background r bs d = tt
 apply-vertices Shade r bs d = shade-vertices (d .look .colour .mode) _ _ _ d
@@ -88,7 +92,7 @@ then-draws (Draw d rs) k p f = by (k d) (f d)
 
 pub finish-draws : (x : Role) (filled : Bool) (d : Drawing) → Draws (finish x filled d)
 unfolding arcTo closingEdge
-finish-draws x filled d = finish-all Draws x filled d tt tt (pick-all Draws (ltb 1 (d .command .vertices)) tt tt) tt
+finish-draws x filled d = finish-all Draws x filled d tt tt (pick-all Draws (ltb 1 (d .command .vertices)) tt tt) tt (λ n. tt)
 
 draws-vertices : (o : Outcome) → Draws o → OnlyVertices o
 draws-vertices (NotDrawn r) w = absurd w
@@ -106,6 +110,9 @@ unfolding act openCommand
 act-vertices Idle d = tt
 act-vertices Close d = close-vertices d
 act-vertices (Control b) d = then-vertices (close d) _ (close-vertices d) (λ e. tt)
+act-vertices (Format f b) d = then-vertices (close d) _ (close-vertices d) (λ e. tt)
+act-vertices (Reset b) d = then-vertices (close d) _ (close-vertices d) (λ e. tt)
+act-vertices (Position x r c) d = tt
 act-vertices (Character x b) d = then-vertices (close d) _ (close-vertices d) (λ e. tt)
 act-vertices (Opcode o) d = then-vertices (close d) _ (close-vertices d) (λ e. tt)
 act-vertices (Data b) d = data-vertices (rowOf (d .command .opcode)) b d

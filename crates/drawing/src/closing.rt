@@ -3,7 +3,7 @@ use crate::data::apply_begun;
 use crate::data::resting;
 use crate::data::role_due;
 use figures::Drawn;
-use figures::answers::moved;
+use figures::answers::moved_if;
 use figures::answers::no_record;
 use figures::finishing;
 use figures::tracing::put_figure;
@@ -18,12 +18,15 @@ use rules::Pen;
 use rules::Point;
 use rules::Role;
 use rules::Row;
+use text::settings::close_text;
 ghost use mathlib.Core.Path.{_≡_};
+ghost use mathlib.Core.Bool.{false};
 ghost use Prim.Native.Nat.{_+_, _≤_};
 ghost use lib.ListN.{length};
 ghost use Rattle.rules.specs.Numbers.{recordSize};
 ghost use Rattle.rules.specs.Drawing.{rowOf, withMode, complete, finish, newCommand, close};
 ghost use Rattle.figures.specs.Carried.{carryOut, drawingOf, carriedOf, DrawsBy};
+ghost use Rattle.figures.specs.Tracing.{finishesApart};
 
 // Applies an operand that is begun: the bytes that have not come are zero bits.
 fn complete(
@@ -62,7 +65,33 @@ fn direct(look: Look) -> Look
     Look { domain, colour }
 }
 
-// SELECT COLOUR with no operand sets mode 0; other commands finish by a figure or none.
+// Finishes by a figure, or by none.
+fn finish_figure(
+    role: Role,
+    row: Row,
+    pen: Pen,
+    command: Command,
+    look: Look,
+    out: &mut [u8],
+    at: usize,
+) -> Drawn
+    requires { ⌜ (finishesApart role ≡ false) × (at + recordSize ≤ length (now out)) ⌝ }
+    ensures { λ r. ⌜ DrawsBy (finish role (row .filled)) pen command look at (now (out .entry)) r (now (out .exit)) ⌝ }
+{
+    let done = finishing::finish(role, row, pen.point, command);
+    let ink = head_of(look, 0, 0, 0, 0);
+    let at = put_figure(done.figure, ink, look.domain.pel, out, at);
+    let pen = moved_if(done.moved, pen, done.point);
+    Drawn {
+        too_many_vertices: false,
+        at,
+        pen,
+        command,
+        look,
+    }
+}
+
+// SELECT COLOUR with no operand sets mode 0, TEXT sets the cursor; other commands finish by a figure or none.
 fn finish(
     role: Role,
     row: Row,
@@ -75,19 +104,13 @@ fn finish(
     requires { ⌜ at + recordSize ≤ length (now out) ⌝ }
     ensures { λ r. ⌜ DrawsBy (finish role (row .filled)) pen command look at (now (out .entry)) r (now (out .exit)) ⌝ }
 {
-    if let Role::Foreground = role {
-        return no_record(pen, command, direct(look), at);
-    }
-    let done = finishing::finish(role, row, pen.point, command);
-    let ink = head_of(look, 0, 0, 0, 0);
-    let at = put_figure(done.figure, ink, look.domain.pel, out, at);
-    let pen = moved(pen, done.point);
-    Drawn {
-        too_many_vertices: false,
-        at,
-        pen,
-        command,
-        look,
+    match role {
+        Role::TextFirst => no_record(close_text(Due::First, pen), command, look, at),
+        Role::TextSecond => no_record(close_text(Due::Second, pen), command, look, at),
+        Role::TextField => no_record(close_text(Due::Third, pen), command, look, at),
+        Role::TextMore => no_record(close_text(Due::Past, pen), command, look, at),
+        Role::Foreground => no_record(pen, command, direct(look), at),
+        _ => finish_figure(role, row, pen, command, look, out, at),
     }
 }
 
@@ -127,7 +150,7 @@ pub(crate) fn close(
     let role = role_due(row, done.command);
     let done = finish(role, row, done.pen, done.command, done.look, out, done.at);
     no_record(
-        resting(done.pen.point),
+        resting(done.pen),
         new_command(0, ORIGIN),
         done.look,
         done.at,

@@ -6,7 +6,6 @@ use rules::Command;
 use rules::Look;
 use rules::Operand;
 use rules::Pen;
-use rules::Point;
 use rules::Role;
 use rules::Row;
 use tables::opcodes::due_after;
@@ -20,15 +19,21 @@ ghost use Rattle.rules.specs.Numbers.{recordSize};
 ghost use Rattle.rules.specs.Drawing.{roleOf, dueAfter, withDue, noOperand, Draw, nextOperand, applyBegun, dataByte};
 ghost use Rattle.figures.specs.Carried.{carryOut, drawingOf, carriedOf, ChangesBy};
 
-// A pen with no operand begun.
-pub fn resting(point: Point) -> Pen
-    ensures { λ r. ⌜ r ≡ record { point = point; operand = noOperand } ⌝ }
+// The pen with no operand begun.
+pub fn resting(pen: Pen) -> Pen
+    ensures { λ r. ⌜ r ≡ record { point = pen .point; text = pen .text; operand = noOperand } ⌝ }
 {
+    let point = pen.point;
+    let text = pen.text;
     let operand = Operand {
         bytes: [0; 8],
         count: 0,
     };
-    Pen { point, operand }
+    Pen {
+        point,
+        text,
+        operand,
+    }
 }
 
 // What the operand that is due is for.
@@ -63,7 +68,7 @@ pub fn with_due(row: Row, command: Command) -> Command
 fn next_operand(row: Row, pen: Pen, command: Command, look: Look, at: usize) -> Drawn
     ensures { λ r. ⌜ ChangesBy (λ d. Draw (nextOperand (row .pattern) d) []) pen command look at r ⌝ }
 {
-    no_record(resting(pen.point), with_due(row, command), look, at)
+    no_record(resting(pen), with_due(row, command), look, at)
 }
 
 // Applies the operand that is begun.
@@ -94,11 +99,13 @@ fn join_byte(pen: Pen, byte: u8) -> Pen
     ensures { λ r. ⌜ r
         ≡ record {
           point = pen .point;
+          text = pen .text;
           operand = record
               { bytes = set (pen .operand .bytes) (pen .operand .count) byte; count = suc (pen .operand .count) };
         } ⌝ }
 {
     let point = pen.point;
+    let text = pen.text;
     let mut bytes = pen.operand.bytes;
     let count = pen.operand.count;
     bytes[count as usize] = byte;
@@ -106,7 +113,11 @@ fn join_byte(pen: Pen, byte: u8) -> Pen
         bytes,
         count: count + 1,
     };
-    Pen { point, operand }
+    Pen {
+        point,
+        text,
+        operand,
+    }
 }
 
 // A byte is dropped, joins the operand, or is its last and applies it. A refused byte has not joined.

@@ -17,16 +17,16 @@ ghost use lib.ListN.{length};
 ghost use Rattle.rules.specs.Numbers.{recordSize};
 ghost use Rattle.rules.specs.declared.Look.{Look};
 ghost use Rattle.rules.specs.declared.Operand.{Operand};
+ghost use Rattle.rules.specs.declared.Text.{Text};
 ghost use Rattle.rules.specs.Record.{bytesOf, mark};
 ghost use Rattle.rules.specs.Drawing.{rowOf, openCommand};
 ghost use Rattle.records.specs.Bytes.{overwrite};
 ghost use Rattle.figures.specs.Carried.{carryOut, drawingOf};
 ghost use Rattle.figures.specs.Tracing.{Inks, penAt};
 
-// The place after the records, the drawing point and the command that is open.
+// The place after the records, and the command that is open.
 pub struct Opened {
     pub at: usize,
-    pub point: Point,
     pub command: Command,
 }
 
@@ -50,14 +50,14 @@ pub fn open_at(
     at: usize,
 ) -> Opened
     requires { ⌜ (row ≡ rowOf opcode) × (at + recordSize ≤ length (now out)) ⌝ }
-    ensures drawn { λ r. ⌜ ((l : Look) (o : Operand) (c : Command) (m : List ℕ) → Inks ink pel l
+    ensures drawn { λ r. ⌜ ((l : Look) (t : Text) (o : Operand) (c : Command) (m : List ℕ) → Inks ink pel l
         → record {
           refused = false;
-          drawing = drawingOf (penAt (r .point) o) (r .command) l m;
+          drawing = drawingOf (penAt p t o) (r .command) l m;
           at = r .at;
           output = now (out .exit);
         }
-        ≡ carryOut (openCommand opcode) (drawingOf (penAt p o) c l m) at (now (out .entry))) ⌝ }
+        ≡ carryOut (openCommand opcode) (drawingOf (penAt p t o) c l m) at (now (out .entry))) ⌝ }
     ensures opcode { λ r. ⌜ r .command .opcode ≡ opcode ⌝ }
     ensures most { λ r. ⌜ r .at ≤ at + recordSize ⌝ }
 {
@@ -66,13 +66,8 @@ pub fn open_at(
         put_mark(ink, 9, opcode, p, pel, out, at);
         return Opened {
             at: at + RECORD_SIZE,
-            point: p,
             command,
         };
     }
-    Opened {
-        at,
-        point: p,
-        command,
-    }
+    Opened { at, command }
 }

@@ -1,4 +1,4 @@
-pub mod TextLaws
+pub mod CharacterLaws
 pub mod ActsLaws
 pub mod RunLaws
 pub mod StrokeLaws

@@ -14,6 +14,8 @@ use Rattle.rules.specs.declared.Set.the-variants.{Pdi}
 use Rattle.rules.specs.Numbers.{roomForStep, origin}
 use Rattle.rules.specs.Operands.{point}
 use Rattle.rules.specs.Record.{words, bytesOf, flags, recordOf, figure}
+use Rattle.rules.specs.Text.{follow}
+use Rattle.rules.proofs.TextLaws.{follow-follow}
 use Rattle.rules.specs.Drawing.{row, rows, rowOf, roleOf, dueAfter, lengthOf, withPoint, withOperand, withDue, Draw, drawFigure, apply, nextOperand}
 use Rattle.records.specs.declared.Head.{Head}
 use Rattle.records.specs.Bytes.{overwrite, headBytes}
@@ -21,9 +23,10 @@ use Rattle.records.proofs.Heads.{record-bytes}
 use Rattle.operands.specs.Data.{allData}
 use Rattle.operands.proofs.WholeLaws.{is-three}
 use Rattle.figures.specs.Carried.{Carried, carry, drawingOf}
+use Rattle.figures.specs.Tracing.{movedIf}
 use Rattle.figures.proofs.Carrying.{carry-none, carry-one}
 use Rattle.drawing_runs.specs.Run.{standing, Run, none}
-use Rattle.drawing_runs.specs.Strokes.{penAfter, StrokeDue, Moves, Lines}
+use Rattle.drawing_runs.specs.Strokes.{rested, penAfter, StrokeDue, Moves, Lines}
 use Rattle.drawing_runs.proofs.RunLaws.{each-data, whole-operand}
 
 -- The commands, by their rows
@@ -36,10 +39,26 @@ unfolding rowOf rows
 line-row e = rw e
 
 -- A whole operand keeps the command ready for the next
-ready-after : (n kind : ℕ) (p : Pen) (c : Command) (l : Look) (q : Point) → StrokeDue kind p c l → StrokeDue kind (penAfter n p q) c l
+ready-after : (n kind : ℕ) (p : Pen) (c : Command) (l : Look) (q : Point) → StrokeDue kind p c l → StrokeDue kind (penAfter n true p q) c l
 ready-after zero kind p c l q r = r
 ready-after (suc n) kind p c l q r =
     record { drawn = r .drawn; due = r .due; multi = r .multi; plane = r .plane; fresh = refl; eight = refl }
+
+-- Where the point was moved before, it is moved on: the cursor follows the last point alone
+pub after-moved : (n k : ℕ) (w : Bool) (p : Pen) (old q : Point) → rested (follow q (penAfter n w p old)) ≡ penAfter (suc k) true p q
+after-moved zero k w p old q = refl
+after-moved (suc n) k true p old q = ap rested (follow-follow q old p)
+after-moved (suc n) k false p old q = refl
+
+-- After some bytes no operand is begun
+pub after-begun : (p : Pen) (n : ℕ) (w : Bool) (q : Point) (y : Pen) → 1 ≤ n → y ≡ movedIf w q p → rested y ≡ penAfter n w p q
+after-begun p zero w q y h e = absurd (omega arith)
+after-begun p (suc n) w q y h e = ap rested e
+
+after-point : (n : ℕ) (p : Pen) (old q : Point) → rested (follow q (penAfter n true p old)) ≡ penAfter (n + 3) true p q
+after-point n p old q =
+    let next : suc (n + 2) ≡ n + 3 = omega arith in
+    after-moved n (n + 2) true p old q ∙ ap (λ (k : ℕ). penAfter k true p q) next
 
 -- The next three bytes
 module _ (bytes : List ℕ) (from n : ℕ) (q : Point) (h : from + n + 3 ≤ length bytes)
@@ -49,12 +68,12 @@ module _ (bytes : List ℕ) (from n : ℕ) (q : Point) (h : from + n + 3 ≤ len
 
   -- By the figure that the command draws
   stroke : (kind : ℕ) (x : Carried) (p₀ p : Pen) (c : Command) (l : Look) (m : List ℕ) (at : ℕ) (out : List ℕ) (rs : List Record)
-      → StrokeDue kind p c l → at + roomForStep ≤ length out
+      → rested (follow q p) ≡ penAfter (n + 3) true p₀ q → StrokeDue kind p c l → at + roomForStep ≤ length out
       → ((o : Operand) → drawFigure kind false false q (withOperand o (drawingOf p c l m)) ≡ Draw (withOperand o (withPoint q (drawingOf p c l m))) rs)
       → Run Pdi bytes from x n (standing p c l m at out)
-      → Run Pdi bytes from x (n + 3) (carry (Draw (drawingOf (penAfter (n + 3) p₀ q) c l m) rs) (drawingOf p c l m) at out)
+      → Run Pdi bytes from x (n + 3) (carry (Draw (drawingOf (penAfter (n + 3) true p₀ q) c l m) rs) (drawingOf p c l m) at out)
   unfolding apply roleOf lengthOf dueAfter
-  stroke kind x p₀ p c l m at out rs ready room draws run =
+  stroke kind x p₀ p c l m at out rs moved ready room draws run =
       let d : Drawing = drawingOf p c l m in
       let bs = take 3 (drop (from + n) bytes) in
       let long = ap (λ (y : Row). lengthOf (roleOf (y .pattern) (c .due)) (l .domain)) (ready .drawn) ∙ ready .multi in
@@ -65,8 +84,8 @@ module _ (bytes : List ℕ) (from n : ℕ) (q : Point) (h : from + n + 3 ≤ len
       let same : withDue First c ≡ c =
       let e = sym (ready .due) in
       λ i. record { opcode = c .opcode; due = e i; vertices = c .vertices; start = c .start; middle = c .middle; wrapped = c .wrapped } in
-      let after : nextOperand A (withPoint q d) ≡ drawingOf (penAfter (n + 3) p₀ q) c l m =
-      ap (λ (e : Command). drawingOf (penAfter (suc (n + 2)) p₀ q) e l m) same ∙ ap (λ (k : ℕ). drawingOf (penAfter k p₀ q) c l m) next in
+      let after : nextOperand A (withPoint q d) ≡ drawingOf (penAfter (n + 3) true p₀ q) c l m =
+      ap (λ (e : Command). drawingOf (rested (follow q p)) e l m) same ∙ ap (λ (y : Pen). drawingOf y c l m) moved in
       subst (λ (e : Drawing). Run Pdi bytes from x (n + 3) (carry (Draw e rs) d at out))
       (ap (λ (y : Row). nextOperand (y .pattern) (withPoint q d)) (ready .drawn) ∙ after)
       (whole-operand bytes from n x d at out room 3 long (omega arith) (each-data bytes (from + n) 3 h all) h (omega (arith, ready .eight)) (ready .fresh) (withPoint q d) rs applied run)
@@ -75,9 +94,9 @@ module _ (bytes : List ℕ) (from n : ℕ) (q : Point) (h : from + n + 3 ≤ len
   unfolding drawFigure
   moves-more old moves p c l m at out ready room =
       let x = standing p c l m at out in
-      let p′ = penAfter n p old in
-      let run = stroke 0 x p p′ c l m at out [] (ready-after n 0 p c l old ready) room (λ o. refl) (moves p c l m at out ready room) in
-      subst (λ (y : Carried). Run Pdi bytes from x (n + 3) y) (carry-none (drawingOf (penAfter (n + 3) p q) c l m) (drawingOf p′ c l m) at out) run
+      let p′ = penAfter n true p old in
+      let run = stroke 0 x p p′ c l m at out [] (after-point n p old q) (ready-after n 0 p c l old ready) room (λ o. refl) (moves p c l m at out ready room) in
+      subst (λ (y : Carried). Run Pdi bytes from x (n + 3) y) (carry-none (drawingOf (penAfter (n + 3) true p q) c l m) (drawingOf p′ c l m) at out) run
 
   lines-more : (head : Head) (pel p₀ : Point) (at₀ : ℕ) (out₀ : List ℕ) (old : Point) (at : ℕ) (out out′ : List ℕ)
       → at + roomForStep ≤ length out
@@ -86,8 +105,8 @@ module _ (bytes : List ℕ) (from n : ℕ) (q : Point) (h : from + n + 3 ≤ len
   unfolding drawFigure figure recordOf flags
   lines-more head pel p₀ at₀ out₀ old at out out′ room wrote lines p c l m ready start heads pels =
       let x = standing p c l m at₀ out₀ in
-      let p′ = penAfter n p old in
-      let e : Drawing = drawingOf (penAfter (n + 3) p q) c l m in
+      let p′ = penAfter n true p old in
+      let e : Drawing = drawingOf (penAfter (n + 3) true p q) c l m in
       let before = lines p c l m ready start heads pels in
       let r : Record = figure l 2 0 (p′ .point) q origin in
       let s : Record = recordOf l 2 0 0 0 old q origin in
@@ -96,10 +115,10 @@ module _ (bytes : List ℕ) (from n : ℕ) (q : Point) (h : from + n + 3 ≤ len
       wrote
       ∙ ap (λ (z : Point). overwrite at (headBytes head ++ words old ++ words q ++ words origin ++ words z) out) pels
       ∙ ap (λ (z : List ℕ). overwrite at z out) (record-bytes s head (heads old q origin) ∙ ap bytesOf same) in
-      let run = stroke 2 x p p′ c l m at out (r ∷ []) (ready-after n 2 p c l old ready) room (λ o. refl) (before .1) in
+      let run = stroke 2 x p p′ c l m at out (r ∷ []) (after-point n p old q) (ready-after n 2 p c l old ready) room (λ o. refl) (before .1) in
       let drawn = subst (λ (y : Carried). Run Pdi bytes from x (n + 3) y) (carry-one r e (drawingOf p′ c l m) at out) run in (
-        ap (λ (k : ℕ). penAfter k p q .point) (sym next),
-        subst (λ (y : List ℕ). Run Pdi bytes from x (n + 3) (standing (penAfter (n + 3) p q) c l m (at + 40) y)) (sym written) drawn,
+        ap (λ (k : ℕ). penAfter k true p q .point) (sym next),
+        subst (λ (y : List ℕ). Run Pdi bytes from x (n + 3) (standing (penAfter (n + 3) true p q) c l m (at + 40) y)) (sym written) drawn,
       )
 
 -- The same at the place i that a loop has reached

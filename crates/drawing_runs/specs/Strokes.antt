@@ -1,5 +1,5 @@
 -- Operands of three bytes in two dimensions, of a command that goes to each point read
-use Rattle.drawing_runs.specs.Prelude.{ℕ, zero, suc, _+_, _≤_, false, List, _≡_, length}
+use Rattle.drawing_runs.specs.Prelude.{ℕ, zero, suc, _+_, _≤_, Bool, true, false, List, _≡_, length}
 use Rattle.rules.specs.declared.Command.{Command}
 use Rattle.rules.specs.declared.Due.the-variants.{First}
 use Rattle.rules.specs.declared.Look.{Look}
@@ -12,12 +12,17 @@ use Rattle.rules.specs.Drawing.{row, rowOf, noOperand}
 use Rattle.rules.specs.Record.{recordOf}
 use Rattle.records.specs.declared.Head.{Head}
 use Rattle.records.specs.Bytes.{headOf, headBytes}
+use Rattle.figures.specs.Tracing.{movedIf}
 use Rattle.drawing_runs.specs.Run.{standing, Run}
 
--- The pen after so many bytes of whole operands, the last point q: as lent where none has come
-abbrev pub penAfter : ℕ → Pen → Point → Pen
-penAfter zero p q = p
-penAfter (suc n) p q = record { point = q; operand = noOperand }
+-- A pen with no operand begun
+abbrev pub rested : Pen → Pen
+rested p = record { point = p .point; text = p .text; operand = noOperand }
+
+-- The pen after so many bytes, with the drawing point moved to q or not: as lent where none has come
+abbrev pub penAfter : ℕ → Bool → Pen → Point → Pen
+penAfter zero w p q = p
+penAfter (suc n) w p q = rested (movedIf w q p)
 
 -- The first operand is due of such a command, with figures of a kind that are not filled; none of it is begun
 pub record StrokeDue (kind : ℕ) (p : Pen) (c : Command) (l : Look) : Type 0 where
@@ -34,7 +39,7 @@ Moves bytes from n q =
     (p : Pen) (c : Command) (l : Look) (m : List ℕ) (at : ℕ) (out : List ℕ)
     → StrokeDue 0 p c l
     → at + roomForStep ≤ length out
-    → Run Pdi bytes from (standing p c l m at out) n (standing (penAfter n p q) c l m at out)
+    → Run Pdi bytes from (standing p c l m at out) n (standing (penAfter n true p q) c l m at out)
 
 -- n bytes of LINE from the point p₀ and the place at₀ of out₀, the last point q; the records have the head and the pel
 abbrev pub Lines : List ℕ → ℕ → Head → Point → Point → ℕ → List ℕ → ℕ → Point → ℕ → List ℕ → Type 0
@@ -44,4 +49,4 @@ Lines bytes from head pel p₀ at₀ out₀ n q at out =
     → p .point ≡ p₀
     → ((a b s : Point) → headBytes head ≡ headOf (recordOf l 2 0 0 0 a b s))
     → pel ≡ l .domain .pel
-    → (penAfter n p q .point ≡ q) × Run Pdi bytes from (standing p c l m at₀ out₀) n (standing (penAfter n p q) c l m at out)
+    → (penAfter n true p q .point ≡ q) × Run Pdi bytes from (standing p c l m at₀ out₀) n (standing (penAfter n true p q) c l m at out)

@@ -1,6 +1,6 @@
 // Runs: many bytes of one set at once, each a step of its own.
+pub mod characters;
 pub mod strokes;
-pub mod text;
 
 use rules::Command;
 use rules::Pen;

@@ -142,7 +142,7 @@ pub fn draw_strokes(
     requires { ⌜ (from ≤ to) × (to ≤ length (now bytes)) × (at ≤ length (now out)) ⌝ }
     ensures ran { λ r. ⌜ ((m : List ℕ)
         → Run Set.Pdi (now (bytes .entry)) from (standing pen command look m at (now (out .entry))) (r .count)
-        (standing (penAfter (r .count) pen (r .point)) command look m (r .at) (now (out .exit)))) ⌝ }
+        (standing (penAfter (r .count) true pen (r .point)) command look m (r .at) (now (out .exit)))) ⌝ }
     ensures most { λ r. ⌜ from + r .count ≤ to ⌝ }
 {
     let point = pen.point;

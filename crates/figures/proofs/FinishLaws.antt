@@ -9,40 +9,46 @@ use Rattle.rules.specs.declared.Look.{Look}
 use Rattle.rules.specs.declared.Operand.{Operand}
 use Rattle.rules.specs.declared.Point.{Point}
 use Rattle.rules.specs.declared.Role.{Role}
-use Rattle.rules.specs.declared.Role.the-variants.{MoveTo, DrawTo, DrawBy, Middle, ArcEnd, Start, Edge, Lengths, Pel, Foreground, Background, Shade, Dropped}
+use Rattle.rules.specs.declared.Role.the-variants.{MoveTo, DrawTo, DrawBy, Middle, ArcEnd, Start, Edge, Lengths, Pel, TextFirst, TextSecond, TextField, TextMore, Foreground, Background, Shade, Dropped}
+use Rattle.rules.specs.declared.Text.{Text}
 use Rattle.rules.specs.Record.{flags}
+use Rattle.rules.specs.Text.{follow}
 use Rattle.rules.specs.Drawing.{Draw, arcTo, closingEdge, finish}
 use Rattle.rules.proofs.Bools.{true-false}
 use Rattle.figures.specs.declared.tracing.Figure.{Figure}
 use Rattle.figures.specs.Carried.{drawingOf}
-use Rattle.figures.specs.Tracing.{penAt, figureRecords, spanFigure, arcFigure, isForeground}
+use Rattle.figures.specs.Tracing.{penAt, figureRecords, spanFigure, arcFigure, finishesApart}
 
--- The roles but that of SELECT COLOUR's first operand
+-- The roles that finish by a figure, or by none
 abbrev unlike : List ℕ
-unlike = 0 ∷ 1 ∷ 2 ∷ 3 ∷ 4 ∷ 5 ∷ 6 ∷ 7 ∷ 8 ∷ 10 ∷ 11 ∷ 12 ∷ []
+unlike = 0 ∷ 1 ∷ 2 ∷ 3 ∷ 4 ∷ 5 ∷ 6 ∷ 7 ∷ 8 ∷ 14 ∷ 15 ∷ 16 ∷ []
 
-pub not-foreground : (n : Role) → OneOf unlike (tagOf the-role n) → false ≡ isForeground n
-unfolding isForeground
-not-foreground MoveTo k = refl
-not-foreground DrawTo k = refl
-not-foreground DrawBy k = refl
-not-foreground Middle k = refl
-not-foreground ArcEnd k = refl
-not-foreground Start k = refl
-not-foreground Edge k = refl
-not-foreground Lengths k = refl
-not-foreground Pel k = refl
-not-foreground Foreground k = absurd (miss unlike 9 tt k)
-not-foreground Background k = refl
-not-foreground Shade k = refl
-not-foreground Dropped k = refl
+pub not-apart : (n : Role) → OneOf unlike (tagOf the-role n) → false ≡ finishesApart n
+unfolding finishesApart
+not-apart MoveTo k = refl
+not-apart DrawTo k = refl
+not-apart DrawBy k = refl
+not-apart Middle k = refl
+not-apart ArcEnd k = refl
+not-apart Start k = refl
+not-apart Edge k = refl
+not-apart Lengths k = refl
+not-apart Pel k = refl
+not-apart TextFirst k = absurd (miss unlike 9 tt k)
+not-apart TextSecond k = absurd (miss unlike 10 tt k)
+not-apart TextField k = absurd (miss unlike 11 tt k)
+not-apart TextMore k = absurd (miss unlike 12 tt k)
+not-apart Foreground k = absurd (miss unlike 13 tt k)
+not-apart Background k = refl
+not-apart Shade k = refl
+not-apart Dropped k = refl
 
--- The roles that finish with nothing, or with another look
+-- The roles that finish with nothing, or with another look or text
 abbrev plain : List ℕ
-plain = 0 ∷ 1 ∷ 2 ∷ 3 ∷ 5 ∷ 7 ∷ 8 ∷ 9 ∷ 10 ∷ 11 ∷ 12 ∷ []
+plain = 0 ∷ 1 ∷ 2 ∷ 3 ∷ 5 ∷ 7 ∷ 8 ∷ 9 ∷ 10 ∷ 11 ∷ 12 ∷ 13 ∷ 14 ∷ 15 ∷ 16 ∷ []
 
-finish-nothing : (n : Role) (filled : Bool) (d : Drawing) → OneOf plain (tagOf the-role n) → isForeground n ≡ false → finish n filled d ≡ Draw d []
-unfolding finish isForeground
+finish-nothing : (n : Role) (filled : Bool) (d : Drawing) → OneOf plain (tagOf the-role n) → finishesApart n ≡ false → finish n filled d ≡ Draw d []
+unfolding finish finishesApart
 finish-nothing MoveTo filled d k h = refl
 finish-nothing DrawTo filled d k h = refl
 finish-nothing DrawBy filled d k h = refl
@@ -52,31 +58,35 @@ finish-nothing Start filled d k h = refl
 finish-nothing Edge filled d k h = absurd (miss plain 6 tt k)
 finish-nothing Lengths filled d k h = refl
 finish-nothing Pel filled d k h = refl
+finish-nothing TextFirst filled d k h = true-false h
+finish-nothing TextSecond filled d k h = true-false h
+finish-nothing TextField filled d k h = true-false h
+finish-nothing TextMore filled d k h = true-false h
 finish-nothing Foreground filled d k h = true-false h
 finish-nothing Background filled d k h = refl
 finish-nothing Shade filled d k h = refl
 finish-nothing Dropped filled d k h = refl
 
 -- A command finishes by the figure g
-module _ (n : Role) (filled : Bool) (p : Point) (o : Operand) (c : Command) (l : Look) (m : List ℕ) (g : Figure) where
+module _ (n : Role) (filled : Bool) (p : Point) (t : Text) (o : Operand) (c : Command) (l : Look) (m : List ℕ) (g : Figure) where
   -- An arc with no end is a circle
   pub finish-arc : n ≡ ArcEnd → g ≡ arcFigure filled false (c .start) c
-      → finish n filled (drawingOf (penAt p o) c l m) ≡ Draw (drawingOf (penAt (c .start) o) c l m) (figureRecords l g)
+      → finish n filled (drawingOf (penAt p t o) c l m) ≡ Draw (drawingOf (follow (c .start) (penAt p t o)) c l m) (figureRecords l g)
   unfolding finish arcTo figureRecords
   finish-arc h i = rw (h, i)
 
   -- A polygon with edges, and one with none
   pub finish-edge : n ≡ Edge → (f : ℕ) → f ≡ flags filled false true → g ≡ spanFigure 5 f p (c .start) → 1 < c .vertices
-      → finish n filled (drawingOf (penAt p o) c l m) ≡ Draw (drawingOf (penAt (c .start) o) c l m) (figureRecords l g)
+      → finish n filled (drawingOf (penAt p t o) c l m) ≡ Draw (drawingOf (follow (c .start) (penAt p t o)) c l m) (figureRecords l g)
   unfolding finish closingEdge figureRecords
   finish-edge h f e i k = rw (h, i, e, lt-ltb 1 (c .vertices) k)
 
   pub finish-edgeless : n ≡ Edge → g ≡ spanFigure 0 0 p (c .start) → c .vertices ≤ 1
-      → finish n filled (drawingOf (penAt p o) c l m) ≡ Draw (drawingOf (penAt p o) c l m) (figureRecords l g)
+      → finish n filled (drawingOf (penAt p t o) c l m) ≡ Draw (drawingOf (penAt p t o) c l m) (figureRecords l g)
   unfolding finish closingEdge figureRecords
   finish-edgeless h i k = rw (h, i, le-ltb 1 (c .vertices) k)
 
-  pub finish-plain : OneOf plain (tagOf the-role n) → isForeground n ≡ false → g ≡ spanFigure 0 0 p (c .start)
-      → finish n filled (drawingOf (penAt p o) c l m) ≡ Draw (drawingOf (penAt p o) c l m) (figureRecords l g)
+  pub finish-plain : OneOf plain (tagOf the-role n) → finishesApart n ≡ false → g ≡ spanFigure 0 0 p (c .start)
+      → finish n filled (drawingOf (penAt p t o) c l m) ≡ Draw (drawingOf (penAt p t o) c l m) (figureRecords l g)
   unfolding figureRecords
-  finish-plain k h i = rw i (finish-nothing n filled (drawingOf (penAt p o) c l m) k h)
+  finish-plain k h i = rw i (finish-nothing n filled (drawingOf (penAt p t o) c l m) k h)

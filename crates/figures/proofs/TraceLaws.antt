@@ -10,11 +10,13 @@ use Rattle.rules.specs.declared.Operand.{Operand}
 use Rattle.rules.specs.declared.Point.{Point}
 use Rattle.rules.specs.declared.Refusal.the-variants.{TooManyVertices}
 use Rattle.rules.specs.declared.Role.{Role}
-use Rattle.rules.specs.declared.Role.the-variants.{MoveTo, DrawTo, DrawBy, Middle, ArcEnd, Start, Edge, Lengths, Pel, Foreground, Background, Shade, Dropped}
+use Rattle.rules.specs.declared.Role.the-variants.{MoveTo, DrawTo, DrawBy, Middle, ArcEnd, Start, Edge, Lengths, Pel, TextFirst, TextSecond, TextField, TextMore, Foreground, Background, Shade, Dropped}
 use Rattle.rules.specs.declared.Row.{Row}
+use Rattle.rules.specs.declared.Text.{Text}
 use Rattle.rules.specs.Numbers.{mostVertices, origin}
 use Rattle.rules.specs.Operands.{point}
 use Rattle.rules.specs.Record.{words, bytesOf, flags, recordOf, figure}
+use Rattle.rules.specs.Text.{follow}
 use Rattle.rules.specs.Drawing.{Outcome, NotDrawn, Draw, withStart, withVertices, apply, drawFigure, arcMiddle, arcTo, edgeBy}
 use Rattle.rules.proofs.Bools.{true-false, false-true, pick-yes, pick-no}
 use Rattle.records.specs.declared.Head.{Head}
@@ -48,28 +50,28 @@ module _ (l : Look) (f : Figure) (at : ℕ) (out : List ℕ) where
       rw (pick-no [] (r ∷ []) (ne-eqb (f .kind) 0 h)) (puts-one r at out out′ w)
 
 -- Figures of a kind from p to q, which is the figure g
-module _ (kind : ℕ) (filled w : Bool) (q p : Point) (o : Operand) (c : Command) (l : Look) (m : List ℕ) (f : ℕ) (e : f ≡ flags filled w false) (g : Figure) where
-  pub stroke-point : kind ≡ 1 → g ≡ spanFigure 1 f q origin → drawFigure kind filled w q (drawingOf (penAt p o) c l m) ≡ Draw (drawingOf (penAt q o) c l m) (figureRecords l g)
+module _ (kind : ℕ) (filled w : Bool) (q p : Point) (t : Text) (o : Operand) (c : Command) (l : Look) (m : List ℕ) (f : ℕ) (e : f ≡ flags filled w false) (g : Figure) where
+  pub stroke-point : kind ≡ 1 → g ≡ spanFigure 1 f q origin → drawFigure kind filled w q (drawingOf (penAt p t o) c l m) ≡ Draw (drawingOf (follow q (penAt p t o)) c l m) (figureRecords l g)
   unfolding drawFigure figureRecords
   stroke-point h i = rw (i, e, h)
 
-  pub stroke-line : kind ≡ 2 → g ≡ spanFigure 2 f p q → drawFigure kind filled w q (drawingOf (penAt p o) c l m) ≡ Draw (drawingOf (penAt q o) c l m) (figureRecords l g)
+  pub stroke-line : kind ≡ 2 → g ≡ spanFigure 2 f p q → drawFigure kind filled w q (drawingOf (penAt p t o) c l m) ≡ Draw (drawingOf (follow q (penAt p t o)) c l m) (figureRecords l g)
   unfolding drawFigure figureRecords
   stroke-line h i = rw (i, e, h)
 
   pub stroke-rectangle : kind ≡ 4 → g ≡ spanFigure 4 f p q → (b : Point) → b ≡ record { x = q .x; y = p .y }
-      → drawFigure kind filled w q (drawingOf (penAt p o) c l m) ≡ Draw (drawingOf (penAt b o) c l m) (figureRecords l g)
+      → drawFigure kind filled w q (drawingOf (penAt p t o) c l m) ≡ Draw (drawingOf (follow b (penAt p t o)) c l m) (figureRecords l g)
   unfolding drawFigure figureRecords
   stroke-rectangle h i b j = rw (i, e, h, j)
 
   pub stroke-none : (kind ≡ 1 → ⊥) → (kind ≡ 2 → ⊥) → (kind ≡ 4 → ⊥) → g ≡ spanFigure 0 f p q
-      → drawFigure kind filled w q (drawingOf (penAt p o) c l m) ≡ Draw (drawingOf (penAt q o) c l m) (figureRecords l g)
+      → drawFigure kind filled w q (drawingOf (penAt p t o) c l m) ≡ Draw (drawingOf (follow q (penAt p t o)) c l m) (figureRecords l g)
   unfolding drawFigure figureRecords
   stroke-none h i j k = rw (k, ne-eqb kind 1 h, ne-eqb kind 2 i, ne-eqb kind 4 j)
 
 -- The roles that are left after those with a case of their own
 abbrev others : List ℕ
-others = 1 ∷ 2 ∷ 7 ∷ 8 ∷ 9 ∷ 10 ∷ 11 ∷ 12 ∷ []
+others = 1 ∷ 2 ∷ 7 ∷ 8 ∷ 9 ∷ 10 ∷ 11 ∷ 12 ∷ 13 ∷ 14 ∷ 15 ∷ 16 ∷ []
 
 pub edge-room : (n : Role) (k : ℕ) → n ≡ Edge → isPoint n k ≡ true → k < mostVertices
 unfolding isPoint
@@ -77,7 +79,7 @@ edge-room n k h e = ltb-true k mostVertices (rw h at e)
 
 -- The roles that are not counted from the drawing point
 abbrev absolutes : List ℕ
-absolutes = 0 ∷ 1 ∷ 5 ∷ 7 ∷ 8 ∷ 9 ∷ 10 ∷ 11 ∷ 12 ∷ []
+absolutes = 0 ∷ 1 ∷ 5 ∷ 7 ∷ 8 ∷ 9 ∷ 10 ∷ 11 ∷ 12 ∷ 13 ∷ 14 ∷ 15 ∷ 16 ∷ []
 
 pub not-relative : (n : Role) → OneOf absolutes (tagOf the-role n) → false ≡ isRelative n
 unfolding isRelative
@@ -90,6 +92,10 @@ not-relative Start k = refl
 not-relative Edge k = absurd (miss absolutes 6 tt k)
 not-relative Lengths k = refl
 not-relative Pel k = refl
+not-relative TextFirst k = refl
+not-relative TextSecond k = refl
+not-relative TextField k = refl
+not-relative TextMore k = refl
 not-relative Foreground k = refl
 not-relative Background k = refl
 not-relative Shade k = refl
@@ -97,7 +103,7 @@ not-relative Dropped k = refl
 
 -- The roles that are no points
 abbrev pointless : List ℕ
-pointless = 7 ∷ 8 ∷ 9 ∷ 10 ∷ 11 ∷ 12 ∷ []
+pointless = 7 ∷ 8 ∷ 9 ∷ 10 ∷ 11 ∷ 12 ∷ 13 ∷ 14 ∷ 15 ∷ 16 ∷ []
 
 pub not-point : (n : Role) (v : ℕ) → OneOf pointless (tagOf the-role n) → false ≡ isPoint n v
 unfolding isPoint
@@ -110,6 +116,10 @@ not-point Start v k = absurd (miss pointless 5 tt k)
 not-point Edge v k = absurd (miss pointless 6 tt k)
 not-point Lengths v k = refl
 not-point Pel v k = refl
+not-point TextFirst v k = refl
+not-point TextSecond v k = refl
+not-point TextField v k = refl
+not-point TextMore v k = refl
 not-point Foreground v k = refl
 not-point Background v k = refl
 not-point Shade v k = refl
@@ -127,6 +137,10 @@ refused-point Start row bs d h k = true-false k
 refused-point Edge row bs d h k = pick-no _ _ k
 refused-point Lengths row bs d h k = false-true h
 refused-point Pel row bs d h k = false-true h
+refused-point TextFirst row bs d h k = false-true h
+refused-point TextSecond row bs d h k = false-true h
+refused-point TextField row bs d h k = false-true h
+refused-point TextMore row bs d h k = false-true h
 refused-point Foreground row bs d h k = false-true h
 refused-point Background row bs d h k = false-true h
 refused-point Shade row bs d h k = false-true h
@@ -152,48 +166,52 @@ point-role Start k = refl
 point-role Edge k = refl
 point-role Lengths k = absurd (miss points 7 tt k)
 point-role Pel k = absurd (miss points 8 tt k)
-point-role Foreground k = absurd (miss points 9 tt k)
-point-role Background k = absurd (miss points 10 tt k)
-point-role Shade k = absurd (miss points 11 tt k)
-point-role Dropped k = absurd (miss points 12 tt k)
+point-role TextFirst k = absurd (miss points 9 tt k)
+point-role TextSecond k = absurd (miss points 10 tt k)
+point-role TextField k = absurd (miss points 11 tt k)
+point-role TextMore k = absurd (miss points 12 tt k)
+point-role Foreground k = absurd (miss points 13 tt k)
+point-role Background k = absurd (miss points 14 tt k)
+point-role Shade k = absurd (miss points 15 tt k)
+point-role Dropped k = absurd (miss points 16 tt k)
 
 -- An operand of a role whose point is v, and the figure g
-module _ (n : Role) (row : Row) (bs : List ℕ) (v q : Point) (w : Bool) (p : Point) (o : Operand) (c : Command) (l : Look) (m : List ℕ)
+module _ (n : Role) (row : Row) (bs : List ℕ) (v q : Point) (w : Bool) (p : Point) (t : Text) (o : Operand) (c : Command) (l : Look) (m : List ℕ)
     (a : q ≡ aim n p v) (b : w ≡ strays n p v) (e : v ≡ point (l .domain .three) bs) where
   module _ (f : ℕ) (g : Figure) where
-    pub trace-move : n ≡ MoveTo → g ≡ spanFigure 0 f p q → apply n row bs (drawingOf (penAt p o) c l m) ≡ Draw (drawingOf (penAt q o) c l m) (figureRecords l g)
+    pub trace-move : n ≡ MoveTo → g ≡ spanFigure 0 f p q → apply n row bs (drawingOf (penAt p t o) c l m) ≡ Draw (drawingOf (follow q (penAt p t o)) c l m) (figureRecords l g)
     unfolding apply isRelative figureRecords
     trace-move h i = rw (i, a, h, e)
 
     pub trace-start : n ≡ Start → g ≡ spanFigure 0 f p q → (s : Command) → s ≡ withStart q (c .middle) (c .wrapped) c
-        → apply n row bs (drawingOf (penAt p o) c l m) ≡ Draw (drawingOf (penAt q o) s l m) (figureRecords l g)
+        → apply n row bs (drawingOf (penAt p t o) c l m) ≡ Draw (drawingOf (follow q (penAt p t o)) s l m) (figureRecords l g)
     unfolding apply isRelative figureRecords
     trace-start h i s j = rw (i, j, a, h, e)
 
     pub trace-middle : n ≡ Middle → g ≡ spanFigure 0 f p q → (s : Command) → s ≡ withStart p q w c
-        → apply n row bs (drawingOf (penAt p o) c l m) ≡ Draw (drawingOf (penAt q o) s l m) (figureRecords l g)
+        → apply n row bs (drawingOf (penAt p t o) c l m) ≡ Draw (drawingOf (follow q (penAt p t o)) s l m) (figureRecords l g)
     unfolding apply isRelative arcMiddle figureRecords
     trace-middle h i s j = rw (i, j, a, b, h, e)
 
     pub trace-arc : n ≡ ArcEnd → g ≡ arcFigure (row .filled) w q c
-        → apply n row bs (drawingOf (penAt p o) c l m) ≡ Draw (drawingOf (penAt q o) c l m) (figureRecords l g)
+        → apply n row bs (drawingOf (penAt p t o) c l m) ≡ Draw (drawingOf (follow q (penAt p t o)) c l m) (figureRecords l g)
     unfolding apply isRelative arcTo figureRecords
     trace-arc h i = rw (i, a, b, h, e)
 
     pub trace-edge : n ≡ Edge → f ≡ flags (row .filled) w false → g ≡ spanFigure 5 f p q → isPoint n (c .vertices) ≡ true
         → (s : Command) → s ≡ withVertices (suc (c .vertices)) c
-        → apply n row bs (drawingOf (penAt p o) c l m) ≡ Draw (drawingOf (penAt q o) s l m) (figureRecords l g)
+        → apply n row bs (drawingOf (penAt p t o) c l m) ≡ Draw (drawingOf (follow q (penAt p t o)) s l m) (figureRecords l g)
     unfolding apply isRelative isPoint edgeBy figureRecords
     trace-edge h k i j s x = rw (i, k, x, a, b, h, e) (pick-yes _ _ (rw h at j))
 
   -- The operands that draw by the row's kind
   pub trace-stroke : OneOf others (tagOf the-role n) → isPoint n (c .vertices) ≡ true
-      → apply n row bs (drawingOf (penAt p o) c l m) ≡ drawFigure (row .kind) (row .filled) w q (drawingOf (penAt p o) c l m)
+      → apply n row bs (drawingOf (penAt p t o) c l m) ≡ drawFigure (row .kind) (row .filled) w q (drawingOf (penAt p t o) c l m)
   unfolding apply isRelative isPoint
   trace-stroke = by n a b
     where
       by : (x : Role) → q ≡ aim x p v → w ≡ strays x p v → OneOf others (tagOf the-role x) → isPoint x (c .vertices) ≡ true
-          → apply x row bs (drawingOf (penAt p o) c l m) ≡ drawFigure (row .kind) (row .filled) w q (drawingOf (penAt p o) c l m)
+          → apply x row bs (drawingOf (penAt p t o) c l m) ≡ drawFigure (row .kind) (row .filled) w q (drawingOf (penAt p t o) c l m)
       by MoveTo a b k z = absurd (miss others 0 tt k)
       by DrawTo a b k z = rw (a, b, e)
       by DrawBy a b k z = rw (a, b, e)
@@ -203,6 +221,10 @@ module _ (n : Role) (row : Row) (bs : List ℕ) (v q : Point) (w : Bool) (p : Po
       by Edge a b k z = absurd (miss others 6 tt k)
       by Lengths a b k z = false-true z
       by Pel a b k z = false-true z
+      by TextFirst a b k z = false-true z
+      by TextSecond a b k z = false-true z
+      by TextField a b k z = false-true z
+      by TextMore a b k z = false-true z
       by Foreground a b k z = false-true z
       by Background a b k z = false-true z
       by Shade a b k z = false-true z

@@ -1,6 +1,5 @@
 -- An outcome of the drawing rules carried out on an output
 use Rattle.figures.specs.Prelude.{ℕ, _+_, Bool, true, false, List, _≡_, length}
-use Rattle.rules.specs.declared.Point.{Point}
 use Rattle.rules.specs.declared.Pen.{Pen}
 use Rattle.rules.specs.declared.Command.{Command}
 use Rattle.rules.specs.declared.Look.{Look}
@@ -31,10 +30,6 @@ carry (Draw e rs) d at out =
 -- Records are written at a place: the place after them, and the output
 abbrev pub Puts : List Record → ℕ → List ℕ → ℕ → List ℕ → Type 0
 Puts rs at out at′ out′ = (at′ ≡ at + length (bytesOfAll rs)) × (out′ ≡ overwrite at (bytesOfAll rs) out)
-
--- The drawing point elsewhere
-abbrev pub movedTo : Point → Pen → Pen
-movedTo q p = record { point = q; operand = p .operand }
 
 -- The drawing state in the parts that functions take, the colour map lent beside them
 abbrev pub drawingOf : Pen → Command → Look → List ℕ → Drawing

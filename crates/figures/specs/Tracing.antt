@@ -8,11 +8,13 @@ use Rattle.rules.specs.declared.Pen.{Pen}
 use Rattle.rules.specs.declared.Point.{Point}
 use Rattle.rules.specs.declared.Record.{Record}
 use Rattle.rules.specs.declared.Role.{Role}
-use Rattle.rules.specs.declared.Role.the-variants.{MoveTo, DrawTo, DrawBy, Middle, ArcEnd, Start, Edge, Lengths, Pel, Foreground, Background, Shade, Dropped}
+use Rattle.rules.specs.declared.Role.the-variants.{MoveTo, DrawTo, DrawBy, Middle, ArcEnd, Start, Edge, Lengths, Pel, TextFirst, TextSecond, TextField, TextMore, Foreground, Background, Shade, Dropped}
+use Rattle.rules.specs.declared.Text.{Text}
 use Rattle.rules.specs.Numbers.{mostVertices, origin}
 use Rattle.rules.specs.Choice.{pick}
 use Rattle.rules.specs.Operands.{displaced, displacedOut}
 use Rattle.rules.specs.Record.{flags, recordOf, figure}
+use Rattle.rules.specs.Text.{follow}
 use Rattle.rules.specs.Drawing.{Outcome, Draw}
 use Rattle.records.specs.declared.Head.{Head}
 use Rattle.records.specs.Bytes.{headOf, headBytes}
@@ -24,9 +26,14 @@ pub record Inks (ink : Head) (pel : Point) (l : Look) : Type 0 where
   pub head : (p q r : Point) → headBytes ink ≡ headOf (recordOf l 0 0 0 0 p q r)
   pub size : pel ≡ l .domain .pel
 
--- A pen at a point, with an operand begun or not
-abbrev pub penAt : Point → Operand → Pen
-penAt p o = record { point = p; operand = o }
+-- A pen at a point, with its text, and an operand begun or not
+abbrev pub penAt : Point → Text → Operand → Pen
+penAt p t o = record { point = p; text = t; operand = o }
+
+-- A pen whose drawing point was moved, or was not
+abbrev pub movedIf : Bool → Point → Pen → Pen
+movedIf true q s = follow q s
+movedIf false q s = s
 
 -- The record of a figure; one of kind 0 has none
 unfoldable pub figureRecords : Look → Figure → List Record
@@ -41,26 +48,32 @@ abbrev pub arcFigure : Bool → Bool → Point → Command → Figure
 arcFigure filled w q c =
     record { kind = 3; flags = flags filled (c .wrapped || w) false; p0 = c .start; p1 = c .middle; p2 = q }
 
--- A rule draws a figure: from the drawing point p with c open it goes to the drawing point q with c′ open, whatever is begun
-abbrev pub DrawsFigure : (Drawing → Outcome) → Look → Point → Command → Figure → Point → Command → Type 0
-DrawsFigure rule l p c f q c′ =
-    (o : Operand) (m : List ℕ) → rule (drawingOf (penAt p o) c l m) ≡ Draw (drawingOf (penAt q o) c′ l m) (figureRecords l f)
+-- A rule draws a figure: from the drawing point p with c open it moves to the drawing point q, or moves not, with c′ open, whatever
+-- the text is and whatever is begun
+abbrev pub DrawsFigure : (Drawing → Outcome) → Look → Point → Command → Figure → Bool → Point → Command → Type 0
+DrawsFigure rule l p c f w q c′ =
+    (t : Text) (o : Operand) (m : List ℕ)
+    → rule (drawingOf (penAt p t o) c l m) ≡ Draw (drawingOf (movedIf w q (penAt p t o)) c′ l m) (figureRecords l f)
 
--- SELECT COLOUR with no operand, which finishes with another look
-unfoldable pub isForeground : Role → Bool
-isForeground MoveTo = false
-isForeground DrawTo = false
-isForeground DrawBy = false
-isForeground Middle = false
-isForeground ArcEnd = false
-isForeground Start = false
-isForeground Edge = false
-isForeground Lengths = false
-isForeground Pel = false
-isForeground Foreground = true
-isForeground Background = false
-isForeground Shade = false
-isForeground Dropped = false
+-- SELECT COLOUR with no operand and TEXT, which finish with another look or another text and draw no figure
+unfoldable pub finishesApart : Role → Bool
+finishesApart MoveTo = false
+finishesApart DrawTo = false
+finishesApart DrawBy = false
+finishesApart Middle = false
+finishesApart ArcEnd = false
+finishesApart Start = false
+finishesApart Edge = false
+finishesApart Lengths = false
+finishesApart Pel = false
+finishesApart TextFirst = true
+finishesApart TextSecond = true
+finishesApart TextField = true
+finishesApart TextMore = true
+finishesApart Foreground = true
+finishesApart Background = false
+finishesApart Shade = false
+finishesApart Dropped = false
 
 -- The operands that are counted from the drawing point
 unfoldable pub isRelative : Role → Bool
@@ -73,6 +86,10 @@ isRelative Start = false
 isRelative Edge = true
 isRelative Lengths = false
 isRelative Pel = false
+isRelative TextFirst = false
+isRelative TextSecond = false
+isRelative TextField = false
+isRelative TextMore = false
 isRelative Foreground = false
 isRelative Background = false
 isRelative Shade = false
@@ -96,6 +113,10 @@ isPoint Start n = true
 isPoint Edge n = ltb n mostVertices
 isPoint Lengths n = false
 isPoint Pel n = false
+isPoint TextFirst n = false
+isPoint TextSecond n = false
+isPoint TextField n = false
+isPoint TextMore n = false
 isPoint Foreground n = false
 isPoint Background n = false
 isPoint Shade n = false

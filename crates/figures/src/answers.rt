@@ -7,20 +7,24 @@ use rules::Pen;
 use rules::Point;
 use rules::RECORD_SIZE;
 use rules::Record;
+use text::cursor::follow;
 ghost use mathlib.Core.Path.{_≡_};
 ghost use mathlib.Core.List.{[], _∷_};
 ghost use Prim.Native.Nat.{_+_, _≤_};
 ghost use lib.ListN.{length};
 ghost use Rattle.rules.specs.Numbers.{recordSize};
 ghost use Rattle.rules.specs.Drawing.{Draw};
-ghost use Rattle.figures.specs.Carried.{movedTo, DrawsBy, ChangesBy};
+ghost use Rattle.figures.specs.Carried.{DrawsBy, ChangesBy};
+ghost use Rattle.figures.specs.Tracing.{movedIf};
 
-// The drawing point elsewhere, a begun operand kept.
-pub fn moved(pen: Pen, point: Point) -> Pen
-    ensures { λ r. ⌜ r ≡ movedTo point pen ⌝ }
+// The drawing point moved, if it was.
+pub fn moved_if(moved: bool, pen: Pen, point: Point) -> Pen
+    ensures { λ r. ⌜ r ≡ movedIf moved point pen ⌝ }
 {
-    let operand = pen.operand;
-    Pen { point, operand }
+    if moved {
+        return follow(pen, point);
+    }
+    pen
 }
 
 pub fn no_record(pen: Pen, command: Command, look: Look, at: usize) -> Drawn

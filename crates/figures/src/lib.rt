@@ -3,15 +3,18 @@ pub mod answers;
 pub mod colours;
 pub mod domains;
 pub mod finishing;
+pub mod texts;
 pub mod tracing;
 
-use crate::answers::moved;
 use crate::answers::no_record;
 use crate::colours::set_background;
 use crate::colours::set_foreground;
 use crate::colours::set_shade;
 use crate::domains::set_lengths;
 use crate::domains::set_pel;
+use crate::texts::set_field;
+use crate::texts::set_first;
+use crate::texts::set_second;
 use crate::tracing::is_point;
 use crate::tracing::put_figure;
 use crate::tracing::target;
@@ -24,6 +27,7 @@ use rules::Pen;
 use rules::Point;
 use rules::Role;
 use rules::Row;
+use text::cursor::follow;
 ghost use mathlib.Core.Path.{_≡_};
 ghost use mathlib.Core.Bool.{true};
 ghost use mathlib.Core.List.{List};
@@ -74,7 +78,7 @@ fn draw_point(
     let traced = trace(role, row, aimed.outside, aimed.point, p, command);
     let ink = head_of(look, 0, 0, 0, 0);
     let at = put_figure(traced.figure, ink, look.domain.pel, out, at);
-    let pen = moved(pen, traced.point);
+    let pen = follow(pen, traced.point);
     let command = traced.command;
     Drawn {
         too_many_vertices: false,
@@ -107,6 +111,10 @@ pub fn apply(
     match role {
         Role::Lengths => set_lengths(pen, command, look, at),
         Role::Pel => set_pel(p, pen, command, look, at),
+        Role::TextFirst => set_first(pen, command, look, at),
+        Role::TextSecond => set_second(pen, command, look, at),
+        Role::TextField => set_field(p, pen, command, look, at),
+        Role::TextMore => no_record(pen, command, look, at),
         Role::Foreground => set_foreground(pen, command, look, at),
         Role::Background => set_background(pen, command, look, at),
         Role::Shade => set_shade(pen, command, look, map, out, at),

@@ -96,8 +96,8 @@ pub fn put_figure(figure: Figure, ink: Head, pel: Point, out: &mut [u8], at: usi
     at + RECORD_SIZE
 }
 
-// Whether one of two sums left the range.
-fn either(a: bool, b: bool) -> bool
+// Whether one of two is so; with no branch, which a run's loop would pay for.
+pub fn either(a: bool, b: bool) -> bool
     ensures { λ r. ⌜ r ≡ (a || b) ⌝ }
 {
     a || b
@@ -174,7 +174,7 @@ pub fn trace(role: Role, row: Row, outside: bool, q: Point, p: Point, command: C
     requires { ⌜ isPoint role (command .vertices) ≡ true ⌝ }
     ensures drawn { λ r. ⌜ ((l : Look) (v : Point) (bs : List ℕ) → q ≡ aim role p v → outside ≡ strays role p v
         → v ≡ point (l .domain .three) bs
-        → DrawsFigure (apply role row bs) l p command (r .figure) (r .point) (r .command)) ⌝ }
+        → DrawsFigure (apply role row bs) l p command (r .figure) true (r .point) (r .command)) ⌝ }
     ensures opcode { λ r. ⌜ r .command .opcode ≡ command .opcode ⌝ }
 {
     let flags = flags(row.filled, outside, false);

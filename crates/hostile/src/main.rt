@@ -14,6 +14,7 @@ use calls::print_open;
 use reader::end::end;
 use reader::open::open;
 use rules::Definition;
+use rules::Positioning;
 use rules::STORE_SIZE;
 use rules::Session;
 use rules::Waiting;
@@ -25,9 +26,12 @@ use sessions::with_lengths;
 use sessions::with_operand;
 use sessions::with_places;
 use sessions::with_steps;
+use sessions::with_text;
 use sessions::with_waiting;
 
 const DOMAIN: u8 = 33;
+
+const TEXT: u8 = 34;
 
 const POINT_SET: u8 = 36;
 
@@ -100,6 +104,29 @@ fn drawing_fields(session: Session) {
     both(b"operand-3-of-3", with_operand(session, POINT_SET, 3));
     both(b"operand-1-of-1", with_operand(session, SELECT_COLOUR, 1));
     both(b"operand-2-of-domain", with_operand(session, DOMAIN, 2));
+    both(b"operand-1-of-text", with_operand(session, TEXT, 1));
+}
+
+fn row_case(name: &[u8], session: Session, row: u8) {
+    both(
+        name,
+        with_waiting(session, Waiting::Column(Positioning::Aps, row)),
+    );
+}
+
+fn text_fields(session: Session) {
+    both(
+        b"row-due",
+        with_waiting(session, Waiting::Row(Positioning::Nsr)),
+    );
+    row_case(b"row-63", session, 63);
+    row_case(b"row-64", session, 64);
+    row_case(b"row-127", session, 127);
+    row_case(b"row-128", session, 128);
+    both(b"cursor-below", with_text(session, 0xFFFF_FFFF, 256));
+    both(b"cursor-beyond", with_text(session, 0x7FFF_FFFF, 257));
+    both(b"field-greatest", with_text(session, 0, 0x8000_0000));
+    both(b"field-none", with_text(session, 0, 0));
 }
 
 fn name_case(name: &[u8], session: Session, defined: u8) {
@@ -170,6 +197,7 @@ fn main() {
     let session = opened.session;
     stores();
     drawing_fields(session);
+    text_fields(session);
     other_fields(session);
     steps_over_budget(session);
     cells::reading();

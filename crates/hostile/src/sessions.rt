@@ -32,6 +32,16 @@ pub(crate) fn with_operand(session: Session, opcode: u8, count: u8) -> Session {
     session
 }
 
+// A cursor and a character field of any patterns.
+pub(crate) fn with_text(session: Session, cursor: u32, field: u32) -> Session {
+    let mut session = session;
+    session.drawing.pen.text.cursor.x = cursor;
+    session.drawing.pen.text.cursor.y = cursor;
+    session.drawing.pen.text.field.x = field;
+    session.drawing.pen.text.field.y = field;
+    session
+}
+
 pub(crate) fn with_depth(session: Session, depth: u8) -> Session {
     let mut session = session;
     session.bodies.depth = depth;

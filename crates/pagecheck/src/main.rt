@@ -15,7 +15,7 @@ ghost use Rattle.io.specs.Counts.{Counts};
 const PAGE_SIZE: usize = 16384;
 
 // No stored listing is longer.
-const LISTING_SIZE: usize = 163840;
+const LISTING_SIZE: usize = 327680;
 
 // No record's line is shorter.
 const LINE_SIZE: usize = 32;

@@ -4,7 +4,7 @@ use types.Run.{OneOf, miss}
 use denote.Enum.Declared.{tagOf}
 use Rattle.rules.proofs.Waiting.{the-type as the-waiting}
 use Rattle.rules.specs.declared.Waiting.{Waiting}
-use Rattle.rules.specs.declared.Waiting.the-variants.{Nothing, Shifted, Escape, Designator, Longer, Name, Body, BodyEscape}
+use Rattle.rules.specs.declared.Waiting.the-variants.{Nothing, Shifted, Escape, Designator, Longer, Name, Body, BodyEscape, Row, Column}
 use Rattle.rules.specs.Ranges.{placesFit, waitingFits}
 
 -- Of two tests the first fails, or the second decides
@@ -28,11 +28,11 @@ pub fit-end : (ps : List ℕ) (i : ℕ) → length ps ≤ i → placesFit (drop 
 unfolding placesFit
 fit-end ps i h = rw (drop-of-length-le ps {i = i} h)
 
--- What holds no definition is in range
-abbrev no-definition : List ℕ
-no-definition = 0 ∷ 1 ∷ 2 ∷ 3 ∷ 4 ∷ 5 ∷ []
+-- What holds no definition and no row byte is in range
+abbrev nothing-held : List ℕ
+nothing-held = 0 ∷ 1 ∷ 2 ∷ 3 ∷ 4 ∷ 5 ∷ 8 ∷ []
 
-pub others-fit : (w : Waiting) → OneOf no-definition (tagOf the-waiting w) → true ≡ waitingFits w
+pub others-fit : (w : Waiting) → OneOf nothing-held (tagOf the-waiting w) → true ≡ waitingFits w
 unfolding waitingFits
 others-fit Nothing h = refl
 others-fit (Shifted s) h = refl
@@ -40,5 +40,7 @@ others-fit Escape h = refl
 others-fit (Designator e) h = refl
 others-fit Longer h = refl
 others-fit Name h = refl
-others-fit (Body d) h = absurd (miss no-definition 6 tt h)
-others-fit (BodyEscape d) h = absurd (miss no-definition 7 tt h)
+others-fit (Body d) h = absurd (miss nothing-held 6 tt h)
+others-fit (BodyEscape d) h = absurd (miss nothing-held 7 tt h)
+others-fit (Row x) h = refl
+others-fit (Column x r) h = absurd (miss nothing-held 9 tt h)

@@ -80,7 +80,7 @@ fn close_none(session: Session) -> Ended
     let drawing = session.drawing;
     let look = drawing.look;
     let map = drawing.map;
-    let pen = resting(drawing.pen.point);
+    let pen = resting(drawing.pen);
     let command = new_command(0, ORIGIN);
     let drawing = Drawing {
         pen,

@@ -1,6 +1,5 @@
 // Opening a page.
 use drawing::closing::new_command;
-use drawing::data::resting;
 use rules::Answer;
 use rules::Bodies;
 use rules::Coding;
@@ -12,6 +11,8 @@ use rules::Look;
 use rules::Mode;
 use rules::ORIGIN;
 use rules::Opened;
+use rules::Operand;
+use rules::Pen;
 use rules::Refusal;
 use rules::Repertoire;
 use rules::STORE_SIZE;
@@ -21,6 +22,7 @@ use rules::Sets;
 use rules::Status;
 use rules::Waiting;
 use store::opening::initialise;
+use text::settings::fresh_text;
 ghost use mathlib.Core.Path.{_≡_};
 ghost use Rattle.rules.specs.Drawing.{freshDrawing};
 ghost use Rattle.rules.specs.Calls.{withBudget, freshSession};
@@ -50,7 +52,14 @@ fn fresh_look() -> Look
 fn fresh_drawing() -> Drawing
     ensures { λ r. ⌜ r ≡ freshDrawing ⌝ }
 {
-    let pen = resting(ORIGIN);
+    let pen = Pen {
+        point: ORIGIN,
+        text: fresh_text(),
+        operand: Operand {
+            bytes: [0; 8],
+            count: 0,
+        },
+    };
     let command = new_command(0, ORIGIN);
     let look = fresh_look();
     Drawing {

@@ -4,7 +4,7 @@ ghost use mathlib.Core.List.{[], _∷_, _++_};
 ghost use Prim.Native.Nat.{_+_, _≤_};
 ghost use lib.ListN.{length, set};
 ghost use Rattle.rules.specs.Numbers.{recordSize};
-ghost use Rattle.rules.specs.Record.{word, words, bytesOf, flag, flags, modeNumber, setNumber, recordOf, mark, figure};
+ghost use Rattle.rules.specs.Record.{word, words, bytesOf, flag, flags, modeNumber, setNumber, recordOf, mark, characterRecord, figure};
 ghost use Rattle.records.specs.Bytes.{overwrite, headOf, headBytes};
 ghost use Rattle.records.specs.Fields.{inkOf};
 use rules::Colour;
@@ -14,6 +14,7 @@ use rules::ORIGIN;
 use rules::Point;
 use rules::Record;
 use rules::Repertoire;
+use rules::Text;
 
 fn put_word(out: &mut [u8], at: usize, n: u32)
     requires { ⌜ at + 4 ≤ length (now out) ⌝ }
@@ -202,6 +203,14 @@ pub fn mark(look: Look, kind: u8, repertoire: u8, code: u8, p: Point) -> Record
     ensures { λ r. ⌜ r ≡ mark look kind repertoire code p ⌝ }
 {
     record_of(look, kind, 0, repertoire, code, p, ORIGIN, ORIGIN)
+}
+
+pub fn character(look: Look, repertoire: u8, code: u8, text: Text) -> Record
+    ensures { λ r. ⌜ r ≡ characterRecord look repertoire code text ⌝ }
+{
+    let cursor = text.cursor;
+    let field = text.field;
+    record_of(look, 6, 0, repertoire, code, cursor, field, ORIGIN)
 }
 
 pub fn figure(look: Look, kind: u8, flags: u8, p0: Point, p1: Point, p2: Point) -> Record

@@ -4,7 +4,11 @@ pub mod Spans
 pub mod Lists
 pub mod Tables
 pub mod OpcodeRows
+pub mod TextLaws
+pub mod Integers
+pub mod WorkedText
 pub mod WorkedPages
+pub mod WorkedTextPages
 pub mod WorkedCalls
 pub mod DrawingRanges
 pub mod RecordCount

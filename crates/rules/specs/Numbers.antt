@@ -1,5 +1,5 @@
 -- The numbers of documents 01 and 02 that more than one definition needs; src/lib.rt has them as constants of the same names
-use Prim.Native.Nat.{ℕ}
+use Prim.Native.Nat.{ℕ, _*_, _/_, _^_}
 use Rattle.rules.specs.Types.{Point}
 
 -- "Open takes a store of exactly 8,192 bytes ..". "The store is 256 cells of 32 bytes."
@@ -34,3 +34,19 @@ mostVertices = 412
 -- "drawing point (0, 0)"
 abbrev pub origin : Point
 origin = record { x = 0; y = 0 }
+
+-- 02, 2/13: U, the width and the height of the unit screen
+abbrev pub screenSide : ℕ
+screenSide = 2 ^ 31
+
+-- 02, 2/13: "the display area, whose top is 25/32 of U" (001:2599)
+abbrev pub displayTop : ℕ
+displayTop = screenSide * 25 / 32
+
+-- 02, 2/13: ".. its default character field, .. truncated toward zero to multiples of 256 units, ..": "1/40 cut to a multiple of 256
+-- and 5/128" (001:888)
+abbrev pub freshWidth : ℕ
+freshWidth = screenSide / 40 / 256 * 256
+
+abbrev pub freshHeight : ℕ
+freshHeight = screenSide * 5 / 128

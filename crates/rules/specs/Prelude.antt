@@ -8,6 +8,6 @@ pub use native.Mathlib.Omega.{arith}
 pub use lib.ListN.{getD, set, replicate, length, drop, take, length-append, length-set, length-take, drop-of-length-le, List·getD-eq-default, length-drop}
 pub use lib.Seq.{take-append-seam, drop-append-le, drop-drop, drop-append-add, drop-append-seam}
 pub use lib.Dec.{ltb, eqb, leb}
-pub use lib.IntN.{ℤ, pos, negℤ, _+ℤ_, _-ℤ_}
+pub use lib.IntN.{ℤ, pos, negsuc, negℤ, subℕ, _+ℤ_, _-ℤ_, +ℤ-assoc, +ℤ-comm, negℤ-+ℤ}
 pub use lib.Signed.{leZ, ltZ}
-pub use borrow.Author.Tests.{le-leb, lt-leb, leb-true, eqb-true, not-false, ltb-true, ltb-false}
+pub use borrow.Author.Tests.{le-leb, lt-leb, leb-true, leb-false, eqb-true, not-false, lt-ltb, le-ltb, ltb-true, ltb-false}

@@ -11,10 +11,14 @@ pub use Rattle.rules.specs.declared.SingleShift.the-variants.{Ss2, Ss3}
 pub use Rattle.rules.specs.declared.Sets.{Sets}
 pub use Rattle.rules.specs.declared.Definition.{Definition}
 pub use Rattle.rules.specs.declared.Waiting.{Waiting}
-pub use Rattle.rules.specs.declared.Waiting.the-variants.{Nothing, Shifted, Escape, Designator, Longer, Name, Body, BodyEscape}
+pub use Rattle.rules.specs.declared.Waiting.the-variants.{Nothing, Shifted, Escape, Designator, Longer, Name, Body, BodyEscape, Row as Row·waiting, Column}
+pub use Rattle.rules.specs.declared.Positioning.{Positioning}
+pub use Rattle.rules.specs.declared.Positioning.the-variants.{Aps, Nsr}
+pub use Rattle.rules.specs.declared.Effector.{Effector}
+pub use Rattle.rules.specs.declared.Effector.the-variants.{Apb, Apf, Apd, Apu, Cs, Apr, Aph}
 pub use Rattle.rules.specs.declared.Coding.{Coding}
 pub use Rattle.rules.specs.declared.Control.{Control}
-pub use Rattle.rules.specs.declared.Control.the-variants.{Ignored, Locks, Shifts, Escapes, Barred, Recorded}
+pub use Rattle.rules.specs.declared.Control.the-variants.{Ignored, Locks, Shifts, Escapes, Recorded, Formats, Positions}
 pub use Rattle.rules.specs.declared.Class.{Class}
 pub use Rattle.rules.specs.declared.Class.the-variants.{Below, Column2, Above}
 pub use Rattle.rules.specs.declared.Final.{Final}
@@ -24,7 +28,7 @@ pub use Rattle.rules.specs.declared.Designated.the-variants.{Names, Unas
 pub use Rattle.rules.specs.declared.Inner.{Inner}
 pub use Rattle.rules.specs.declared.Inner.the-variants.{OpensNext, Bars, EndsBody, StartsAfresh, StoresBoth}
 pub use Rattle.rules.specs.declared.Action.{Action}
-pub use Rattle.rules.specs.declared.Action.the-variants.{Idle, Close, Control as Control·action, Character, Opcode, Data}
+pub use Rattle.rules.specs.declared.Action.the-variants.{Idle, Close, Control as Control·action, Format, Reset, Position, Character, Opcode, Data}
 pub use Rattle.rules.specs.declared.Bodies.{Bodies}
 pub use Rattle.rules.specs.declared.Cursor.{Cursor}
 pub use Rattle.rules.specs.declared.Read.{Read}
@@ -33,6 +37,25 @@ pub use Rattle.rules.specs.declared.Chain.{Chain}
 pub use Rattle.rules.specs.declared.Chain.the-variants.{Ends, TooLong}
 pub use Rattle.rules.specs.declared.Point.{Point}
 pub use Rattle.rules.specs.declared.Operand.{Operand}
+pub use Rattle.rules.specs.declared.Rotation.{Rotation}
+pub use Rattle.rules.specs.declared.Rotation.the-variants.{Degrees0, Degrees90, Degrees180, Degrees270}
+pub use Rattle.rules.specs.declared.Path.{Path}
+pub use Rattle.rules.specs.declared.Path.the-variants.{Right, Left, Up, Down}
+pub use Rattle.rules.specs.declared.Spacing.{Spacing}
+pub use Rattle.rules.specs.declared.Spacing.the-variants.{One, FiveFourths, ThreeHalves, Proportional}
+pub use Rattle.rules.specs.declared.Interrow.{Interrow}
+pub use Rattle.rules.specs.declared.Interrow.the-variants.{OneRow, FiveFourthsRow, ThreeHalvesRow, TwoRows}
+pub use Rattle.rules.specs.declared.Moving.{Moving}
+pub use Rattle.rules.specs.declared.Moving.the-variants.{Together, CursorLeads, PointLeads, Independent}
+pub use Rattle.rules.specs.declared.Style.{Style}
+pub use Rattle.rules.specs.declared.Style.the-variants.{Underscore, Block, CrossHair, Custom}
+pub use Rattle.rules.specs.declared.Settings.{Settings}
+pub use Rattle.rules.specs.declared.Pair.{Pair}
+pub use Rattle.rules.specs.declared.Pair.the-variants.{NoPair, Automatic, ReturnSeen, FeedSeen}
+pub use Rattle.rules.specs.declared.Text.{Text}
+pub use Rattle.rules.specs.declared.Reach.{Reach}
+pub use Rattle.rules.specs.declared.FieldBox.{FieldBox}
+pub use Rattle.rules.specs.declared.Coordinate.{Coordinate}
 pub use Rattle.rules.specs.declared.Pen.{Pen}
 pub use Rattle.rules.specs.declared.Due.{Due}
 pub use Rattle.rules.specs.declared.Due.the-variants.{First, Second, Third, Past}
@@ -44,10 +67,10 @@ pub use Rattle.rules.specs.declared.Colour.{Colour}
 pub use Rattle.rules.specs.declared.Look.{Look}
 pub use Rattle.rules.specs.declared.Drawing.{Drawing}
 pub use Rattle.rules.specs.declared.Pattern.{Pattern}
-pub use Rattle.rules.specs.declared.Pattern.the-variants.{A, D, AA, AD, ArcDD, ArcADD, PolygonD, PolygonAD, Domain as Domain·pattern, SelectColour, SetColour, Skipped}
+pub use Rattle.rules.specs.declared.Pattern.the-variants.{A, D, AA, AD, ArcDD, ArcADD, PolygonD, PolygonAD, Domain as Domain·pattern, Text as Text·pattern, SelectColour, SetColour, Skipped}
 pub use Rattle.rules.specs.declared.Row.{Row}
 pub use Rattle.rules.specs.declared.Role.{Role}
-pub use Rattle.rules.specs.declared.Role.the-variants.{MoveTo, DrawTo, DrawBy, Middle, ArcEnd, Start, Edge, Lengths, Pel, Foreground, Background, Shade as Shade·role, Dropped}
+pub use Rattle.rules.specs.declared.Role.the-variants.{MoveTo, DrawTo, DrawBy, Middle, ArcEnd, Start, Edge, Lengths, Pel, TextFirst, TextSecond, TextField, TextMore, Foreground, Background, Shade as Shade·role, Dropped}
 pub use Rattle.rules.specs.declared.Record.{Record}
 pub use Rattle.rules.specs.declared.Refusal.{Refusal}
 pub use Rattle.rules.specs.declared.Refusal.the-variants.{BudgetUsed, ByteOver127, NameBelow, Unsupported, DefinitionInBody, StoreFull, TooDeep, TooManyVertices, EndInside, BodyBytesLeft, StoreSize, OutOfRange, AfterEnd, AddressOver15}

@@ -8,17 +8,17 @@ use Rattle.rules.proofs.Waiting.{the-type as the-waiting}
 use Rattle.rules.specs.declared.Due.{Due}
 use Rattle.rules.specs.declared.Domain.{Domain}
 use Rattle.rules.specs.declared.Pattern.{Pattern}
-use Rattle.rules.specs.declared.Pattern.the-variants.{A, D, AA, AD, ArcDD, ArcADD, PolygonD, PolygonAD, Domain as Domain·pattern, SelectColour, SetColour, Skipped}
+use Rattle.rules.specs.declared.Pattern.the-variants.{A, D, AA, AD, ArcDD, ArcADD, PolygonD, PolygonAD, Domain as Domain·pattern, Text as Text·pattern, SelectColour, SetColour, Skipped}
 use Rattle.rules.specs.declared.Role.{Role}
-use Rattle.rules.specs.declared.Role.the-variants.{MoveTo, DrawTo, DrawBy, Middle, ArcEnd, Start, Edge, Lengths, Pel, Foreground, Background, Shade, Dropped}
+use Rattle.rules.specs.declared.Role.the-variants.{MoveTo, DrawTo, DrawBy, Middle, ArcEnd, Start, Edge, Lengths, Pel, TextFirst, TextSecond, TextField, TextMore, Foreground, Background, Shade, Dropped}
 use Rattle.rules.specs.declared.Waiting.{Waiting}
-use Rattle.rules.specs.declared.Waiting.the-variants.{Nothing, Shifted, Escape, Designator, Longer, Name, Body, BodyEscape}
+use Rattle.rules.specs.declared.Waiting.the-variants.{Nothing, Shifted, Escape, Designator, Longer, Name, Body, BodyEscape, Row, Column}
 use Rattle.rules.specs.Coding.{afterEscape, unfinished}
 use Rattle.rules.specs.Drawing.{advanced, dueAfter, lengthOf}
 
 -- Patterns that do not repeat
 abbrev due-rest : List ℕ
-due-rest = 4 ∷ 5 ∷ 6 ∷ 7 ∷ 8 ∷ 9 ∷ 10 ∷ 11 ∷ []
+due-rest = 4 ∷ 5 ∷ 6 ∷ 7 ∷ 8 ∷ 9 ∷ 10 ∷ 11 ∷ 12 ∷ []
 
 pub due-otherwise : (p : Pattern) (n : Due) → OneOf due-rest (tagOf the-pattern p) → advanced n ≡ dueAfter p n
 unfolding dueAfter
@@ -31,13 +31,14 @@ due-otherwise ArcADD n h = refl
 due-otherwise PolygonD n h = refl
 due-otherwise PolygonAD n h = refl
 due-otherwise Domain·pattern n h = refl
+due-otherwise Text·pattern n h = refl
 due-otherwise SelectColour n h = refl
 due-otherwise SetColour n h = refl
 due-otherwise Skipped n h = refl
 
 -- Multi-value operands
 abbrev length-rest : List ℕ
-length-rest = 0 ∷ 1 ∷ 2 ∷ 3 ∷ 4 ∷ 5 ∷ 6 ∷ 8 ∷ 11 ∷ []
+length-rest = 0 ∷ 1 ∷ 2 ∷ 3 ∷ 4 ∷ 5 ∷ 6 ∷ 8 ∷ 11 ∷ 15 ∷ []
 
 pub length-otherwise : (r : Role) (o : Domain) → OneOf length-rest (tagOf the-role r) → o .multi ≡ lengthOf r o
 unfolding lengthOf
@@ -50,14 +51,18 @@ length-otherwise Start o h = refl
 length-otherwise Edge o h = refl
 length-otherwise Lengths o h = absurd (miss length-rest 7 tt h)
 length-otherwise Pel o h = refl
-length-otherwise Foreground o h = absurd (miss length-rest 9 tt h)
-length-otherwise Background o h = absurd (miss length-rest 10 tt h)
+length-otherwise TextFirst o h = absurd (miss length-rest 9 tt h)
+length-otherwise TextSecond o h = absurd (miss length-rest 10 tt h)
+length-otherwise TextField o h = refl
+length-otherwise TextMore o h = absurd (miss length-rest 12 tt h)
+length-otherwise Foreground o h = absurd (miss length-rest 13 tt h)
+length-otherwise Background o h = absurd (miss length-rest 14 tt h)
 length-otherwise Shade o h = refl
-length-otherwise Dropped o h = absurd (miss length-rest 12 tt h)
+length-otherwise Dropped o h = absurd (miss length-rest 16 tt h)
 
 -- What is waited for after another byte than ESC
 abbrev escape-rest : List ℕ
-escape-rest = 0 ∷ 1 ∷ 3 ∷ 4 ∷ 5 ∷ 6 ∷ []
+escape-rest = 0 ∷ 1 ∷ 3 ∷ 4 ∷ 5 ∷ 6 ∷ 8 ∷ 9 ∷ []
 
 pub escape-otherwise : (w : Waiting) → OneOf escape-rest (tagOf the-waiting w) → false ≡ afterEscape w
 unfolding afterEscape
@@ -69,10 +74,12 @@ escape-otherwise Longer h = refl
 escape-otherwise Name h = refl
 escape-otherwise (Body d) h = refl
 escape-otherwise (BodyEscape d) h = absurd (miss escape-rest 7 tt h)
+escape-otherwise (Row x) h = refl
+escape-otherwise (Column x r) h = refl
 
 -- What is waited for inside an escape sequence or a definition
 abbrev unfinished-rest : List ℕ
-unfinished-rest = 2 ∷ 3 ∷ 4 ∷ 5 ∷ 6 ∷ 7 ∷ []
+unfinished-rest = 2 ∷ 3 ∷ 4 ∷ 5 ∷ 6 ∷ 7 ∷ 8 ∷ 9 ∷ []
 
 pub unfinished-otherwise : (w : Waiting) → OneOf unfinished-rest (tagOf the-waiting w) → true ≡ unfinished w
 unfolding unfinished
@@ -84,3 +91,5 @@ unfinished-otherwise Longer h = refl
 unfinished-otherwise Name h = refl
 unfinished-otherwise (Body d) h = refl
 unfinished-otherwise (BodyEscape d) h = refl
+unfinished-otherwise (Row x) h = refl
+unfinished-otherwise (Column x r) h = refl

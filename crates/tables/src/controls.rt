@@ -1,7 +1,9 @@
 // The classes of bytes, and the controls among them.
 use rules::Class;
 use rules::Control;
+use rules::Effector;
 use rules::Element;
+use rules::Positioning;
 use rules::SingleShift;
 ghost use mathlib.Core.Path.{_≡_};
 ghost use mathlib.Core.Bool.{true};
@@ -15,8 +17,14 @@ pub fn class_of(b: u8) -> Class
     match b {
         // 0/0 to 0/6
         0..=6 => Class::Below(Control::Ignored),
-        // 0/7 to 0/13
-        7..=13 => Class::Below(Control::Recorded),
+        7 => Class::Below(Control::Recorded),
+        // 0/8 to 0/13
+        8 => Class::Below(Control::Formats(Effector::Apb)),
+        9 => Class::Below(Control::Formats(Effector::Apf)),
+        10 => Class::Below(Control::Formats(Effector::Apd)),
+        11 => Class::Below(Control::Formats(Effector::Apu)),
+        12 => Class::Below(Control::Formats(Effector::Cs)),
+        13 => Class::Below(Control::Formats(Effector::Apr)),
         // 0/14 SO, 0/15 SI
         14 => Class::Below(Control::Locks(Element::G1)),
         15 => Class::Below(Control::Locks(Element::G0)),
@@ -27,11 +35,13 @@ pub fn class_of(b: u8) -> Class
         26 => Class::Below(Control::Recorded),
         // 1/11 ESC
         27 => Class::Below(Control::Escapes),
-        28 => Class::Below(Control::Barred),
+        // 1/12 APS
+        28 => Class::Below(Control::Positions(Positioning::Aps)),
         // 1/13 SS3
         29 => Class::Below(Control::Shifts(SingleShift::Ss3)),
-        30 => Class::Below(Control::Recorded),
-        31 => Class::Below(Control::Barred),
+        // 1/14 APH, 1/15 NSR
+        30 => Class::Below(Control::Formats(Effector::Aph)),
+        31 => Class::Below(Control::Positions(Positioning::Nsr)),
         32..=47 => Class::Column2,
         _ => Class::Above,
     }

@@ -99,7 +99,7 @@ pub fn after_escape(w: Waiting) -> bool
     }
 }
 
-// Whether the page is inside an escape sequence or a definition.
+// Whether the page is inside an escape sequence or a definition, or has a row or column byte due.
 pub fn unfinished(w: Waiting) -> bool
     ensures { λ r. ⌜ r ≡ unfinished w ⌝ }
 {

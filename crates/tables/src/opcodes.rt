@@ -25,7 +25,11 @@ const ROWS: [Row; 32] = [
         filled: false,
     },
     // 2/2 TEXT
-    OTHER,
+    Row {
+        pattern: Pattern::Text,
+        kind: 9,
+        filled: false,
+    },
     // 2/3 TEXTURE
     OTHER,
     // 2/4 POINT SET, absolute
@@ -226,6 +230,13 @@ pub fn role_of(p: Pattern, n: Due) -> Role
         Pattern::PolygonD => Role::Edge,
         Pattern::PolygonAD => nth_role(n, Role::Start, Role::Edge, Role::Edge, Role::Edge),
         Pattern::Domain => nth_role(n, Role::Lengths, Role::Pel, Role::Dropped, Role::Dropped),
+        Pattern::Text => nth_role(
+            n,
+            Role::TextFirst,
+            Role::TextSecond,
+            Role::TextField,
+            Role::TextMore,
+        ),
         Pattern::SelectColour => nth_role(
             n,
             Role::Foreground,
@@ -280,6 +291,9 @@ pub fn length_of(r: Role, d: Domain) -> u8
 {
     match r {
         Role::Lengths => 1,
+        Role::TextFirst => 1,
+        Role::TextSecond => 1,
+        Role::TextMore => 0,
         Role::Foreground => d.single,
         Role::Background => d.single,
         Role::Dropped => 0,

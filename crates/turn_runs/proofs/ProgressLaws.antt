@@ -278,8 +278,3 @@ coded-most p to n d s x r e h = rw e (omega arith)
 -- A run of some bytes is some steps
 pub coded-more : (p : Progress) (n d : ℕ) (s : Sets) (x : Waiting) (r : Progress) → r ≡ codedOn n d s x p → (n ≡ 0 → ⊥) → r .steps ≤ p .steps → ⊥
 coded-more p n d s x r e h l = let m : p .steps + n ≤ p .steps = rw e at l in h (omega (arith, m))
-
--- The pen after strokes rests at their last point
-pub pen-rests : (pen : Pen) (n : ℕ) (q : Point) → 0 < n → record { point = q; operand = noOperand } ≡ penAfter n pen q
-pen-rests pen zero q h = absurd (omega (arith, h))
-pen-rests pen (suc n) q h = refl

@@ -6,8 +6,8 @@ use bodies::body_at;
 use command_runs::run_commands;
 use drawing::data::resting;
 use drawing_runs::Ran;
+use drawing_runs::characters::run_text;
 use drawing_runs::strokes::draw_strokes;
-use drawing_runs::text::run_text;
 use rules::Command;
 use rules::Look;
 use rules::Pen;
@@ -16,6 +16,7 @@ use rules::Set;
 use store::cursors::Stretch;
 use store::cursors::stretch_of;
 use tables::controls::is_recorded;
+use text::cursor::follow;
 use turns::progress::Progress;
 use turns::progress::Reached;
 use turns::progress::after_run;
@@ -64,7 +65,7 @@ fn draw_pdi(
         return Ran {
             count: lined.count,
             at: lined.at,
-            pen: resting(lined.point),
+            pen: resting(follow(pen, lined.point)),
             command,
         };
     }

@@ -1,5 +1,5 @@
 use Rattle.coding.specs.Prelude.{refl, _∙_, needs}
-use Rattle.rules.specs.declared.Waiting.the-variants.{Escape, Designator, Longer, Name, Body, BodyEscape}
+use Rattle.rules.specs.declared.Waiting.the-variants.{Escape, Designator, Longer, Name, Body, BodyEscape, Row, Column}
 use Rattle.rules.specs.Coding.{reactTo}
 use Rattle.rules.specs.Ranges.{waitingFits}
 use Rattle.coding.proofs.Answers.{unchanged}
@@ -77,11 +77,27 @@ returns-7 c =
 
 returns-8 : tie.Need-returns-8
 returns-8 c =
+    let take-row· = c .take-row in
+    let if1· = c .before .before .before .before .if1 in
+    let waiting4· = c .before .before .waiting4 in
+    (λ sets h. take-row· .ensures _ _ _ ∙ inside _ _ _ _ _ (if1· .left) (Row _) (waiting4· .given .1), unchanged (take-row· .result) _ _)
+
+returns-9 : tie.Need-returns-9
+returns-9 c =
+    let take-column· = c .take-column in
+    let if1· = c .before .before .before .before .if1 in
+    let waiting5· = c .before .before .waiting5 in (
+      λ sets h. take-column· .ensures _ _ _ ∙ inside _ _ _ _ _ (if1· .left) (Column _ _) (waiting5· .given .1),
+      unchanged (take-column· .result) _ _,
+    )
+
+returns-10 : tie.Need-returns-10
+returns-10 c =
     let read-from· = c .read-from in
     let args· = c .before .before .before .before .args in
     let match· = c .before .match in
     let if1· = c .before .before .if1 in (
-      λ sets h. read-from· .ensures sets (args· .waiting) _ _ ∙ others-read _ _ _ _ _ _ (match· .keys7) h ∙ inside _ _ _ _ _ (if1· .left) _ refl,
+      λ sets h. read-from· .ensures sets (args· .waiting) _ _ ∙ others-read _ _ _ _ _ _ (match· .keys9) h ∙ inside _ _ _ _ _ (if1· .left) _ refl,
       unchanged (read-from· .result) _ _,
     )
 
@@ -103,6 +119,10 @@ react-spec =
     in-body-requires
     (λ c. search needs)
     in-body-escape-requires
+    (λ c. search needs)
+    (λ c κs. search needs)
+    (λ c. search needs)
+    (λ c κs. search needs)
     (λ c κs. search needs)
     returns-2
     returns-3
@@ -113,4 +133,6 @@ react-spec =
     returns-6
     (λ c. search needs)
     returns-7
-    returns-8)
+    returns-8
+    returns-9
+    returns-10)

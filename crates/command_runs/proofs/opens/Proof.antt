@@ -9,17 +9,17 @@ returns c = λ h. false-true h
 
 returns-2 : tie.Need-returns-2
 returns-2 c =
-    let is-foreground· = c .before .before .before .is-foreground in
+    let finishes-apart· = c .before .before .before .finishes-apart in
     let if1· = c .before .before .if1 in
     let is-recorded· = c .is-recorded in
-    λ h. (sym (is-foreground· .ensures) ∙ if1· .left, control-asked _ (is-recorded· .ensures h .0) (is-recorded· .ensures h .1))
+    λ h. (sym (finishes-apart· .ensures) ∙ if1· .left, control-asked _ (is-recorded· .ensures h .0) (is-recorded· .ensures h .1))
 
 returns-3 : tie.Need-returns-3
 returns-3 c =
-    let is-foreground· = c .before .before .is-foreground in
+    let finishes-apart· = c .before .before .finishes-apart in
     let if1· = c .before .if1 in
     let if2· = c .if2 in
-    λ h. (sym (is-foreground· .ensures) ∙ if1· .left, opcode-asked _ (if2· .left) (ltb-true _ 64 h))
+    λ h. (sym (finishes-apart· .ensures) ∙ if1· .left, opcode-asked _ (if2· .left) (ltb-true _ 64 h))
 
 pub opens-spec : {M : Type 1} → statement M
 opens-spec =

@@ -1,4 +1,4 @@
-use Rattle.command_runs.specs.Prelude.{needs, length-unmapped, arith, _≡_, refl, sym, ap, _∙_, List, ℕ, _+_, _-_, _≤_, length, not-false}
+use Rattle.command_runs.specs.Prelude.{needs, length-unmapped, arith, _≡_, refl, sym, ap, _∙_, Bool, List, ℕ, _+_, _-_, _≤_, length, not-false}
 use Rattle.rules.specs.declared.Command.{Command}
 use Rattle.rules.specs.declared.Domain.{Domain}
 use Rattle.rules.specs.declared.Look.{Look}
@@ -9,16 +9,15 @@ use Rattle.rules.specs.declared.Row.{Row}
 use Rattle.records.specs.declared.Head.{Head}
 use Rattle.rules.specs.Drawing.{rowOf, roleOf}
 use Rattle.drawing_runs.specs.Run.{standing}
-use Rattle.drawing_runs.specs.Strokes.{penAfter}
 use Rattle.figures.specs.Tracing.{Inks}
-use Rattle.command_runs.proofs.CommandLaws.{after-own, after-moved, Reaches, reaches-none, reaches-opened, reaches-dropped, reaches-end, row-next, multi-range}
+use Rattle.command_runs.proofs.CommandLaws.{Stands, stands-none, stands-moved, stands-on, stands-opened, Reaches, reaches-none, reaches-opened, reaches-dropped, reaches-end, row-next, multi-range}
 use Rattle.command_runs.proofs.PointLaws.{reaches-point}
 use Rattle.command_runs.proofs.run_commands.Statement.{statement}
 use Rattle.command_runs.proofs.run_commands.Tie as tie
 
 -- The row is the open command's, the role that of the operand which is due, the places are in range, the output keeps its length, the
 -- pen lent has room for eight bytes and its point is known, and the bytes so far are a run
-record RunSoFar (pen : Pen) (bytes : List ℕ) (from to : ℕ) (out₀ : List ℕ) (ink : Head) (domain : Domain) (pel : Point) (n at₀ : ℕ) (command₀ : Command) (out : List ℕ) (row : Row) (role : Role) (place at : ℕ) (point : Point) (command : Command) : Type 0 where
+record RunSoFar (pen : Pen) (bytes : List ℕ) (from to : ℕ) (out₀ : List ℕ) (ink : Head) (domain : Domain) (pel : Point) (n at₀ : ℕ) (command₀ : Command) (out : List ℕ) (row : Row) (role : Role) (place at : ℕ) (moved : Bool) (point : Point) (command : Command) : Type 0 where
   own : row ≡ rowOf (command .opcode)
   due : role ≡ roleOf (row .pattern) (command .due)
   begun : from ≤ place
@@ -26,16 +25,16 @@ record RunSoFar (pen : Pen) (bytes : List ℕ) (from to : ℕ) (out₀ : List �
   long : length out ≡ length out₀
   room : at ≤ length out
   eight : length (pen .operand .bytes) ≡ 8
-  stands : penAfter (place - from) pen point .point ≡ point
+  stands : Stands pen (place - from) moved point
   runs : (l : Look) (m : List ℕ) → Inks ink pel l → n ≡ l .domain .multi → domain .three ≡ l .domain .three
-      → Reaches bytes from (standing pen command₀ l m at₀ out₀) pen place point command l m at out
+      → Reaches bytes from (standing pen command₀ l m at₀ out₀) pen place moved point command l m at out
 
 abbrev Inv-loop : tie.InvT-loop
-Inv-loop pen bytes from to out₀ at ink domain pel n table row₀ role₀ place₀ at₀ point₀ command₀ out row role place at′ point command =
-    RunSoFar pen bytes from to out₀ ink domain pel n at₀ command₀ out row role place at′ point command
+Inv-loop pen bytes from to out₀ at ink domain pel n table row₀ role₀ place₀ at₀ moved₀ point₀ command₀ out row role place at′ moved point command =
+    RunSoFar pen bytes from to out₀ ink domain pel n at₀ command₀ out row role place at′ moved point command
 
 abbrev μ-loop : tie.MeasureT-loop
-μ-loop pen bytes from to out₀ at ink domain pel n table row₀ role₀ place₀ at₀ point₀ command₀ out row role place at′ point command = to - place
+μ-loop pen bytes from to out₀ at ink domain pel n table row₀ role₀ place₀ at₀ moved₀ point₀ command₀ out row role place at′ moved point command = to - place
 
 loop-holds : tie.Need-loop-holds Inv-loop μ-loop
 loop-holds c =
@@ -45,7 +44,7 @@ loop-holds c =
     let pre· = c .before .before .before .before .before .before .before .before .before .before .pre in
     let role-due· = c .before .role-due in
     -- What is told of the array in the pen lent
-    let eight = length-unmapped ℕ (args· .pen .operand .bytes) 8 (good· .0 .1 .1 .1 .0 .1 .1 .0 .1 .0 .1) in
+    let eight = length-unmapped ℕ (args· .pen .operand .bytes) 8 (good· .0 .1 .1 .1 .1 .0 .1 .1 .0 .1 .0 .1) in
     record {
       own = row-of· .ensures;
       due = role-due· .ensures;
@@ -54,7 +53,7 @@ loop-holds c =
       long = refl;
       room = pre· .5;
       eight = eight;
-      stands = after-own (args· .pen) (args· .from - args· .from);
+      stands = stands-none (args· .pen) (args· .from - args· .from);
       runs = λ l m k h t. reaches-none _ _ _ _ l m _ _;
     }
 
@@ -80,7 +79,7 @@ returns c =
     let loop· = c .before .before .before .loop in
     let after· = c .after in
     let k : Inks _ _ (args· .look) = record { head = head-of· .ensures; size = refl } in
-    reaches-end _ _ _ _ _ _ _ _ _ _ (args· .look) _ _ _ (loop· .inv .begun) (loop· .inv .within) (after· .ensures) (λ m. loop· .inv .runs (args· .look) m k refl refl)
+    reaches-end _ _ _ _ _ _ _ _ _ _ _ (args· .look) _ _ _ (loop· .inv .begun) (loop· .inv .within) (after· .ensures) (λ m. loop· .inv .runs (args· .look) m k refl refl)
 
 shared-slice-read-byte : tie.Need-shared-slice-read-byte Inv-loop μ-loop
 shared-slice-read-byte c =
@@ -105,7 +104,7 @@ returns-2 c =
     let loop· = c .before .before .before .before .before .before .before .loop in
     let after2· = c .after2 in
     let k : Inks _ _ (args· .look) = record { head = head-of· .ensures; size = refl } in
-    reaches-end _ _ _ _ _ _ _ _ _ _ (args· .look) _ _ _ (loop· .inv .begun) (loop· .inv .within) (after2· .ensures) (λ m. loop· .inv .runs (args· .look) m k refl refl)
+    reaches-end _ _ _ _ _ _ _ _ _ _ _ (args· .look) _ _ _ (loop· .inv .begun) (loop· .inv .within) (after2· .ensures) (λ m. loop· .inv .runs (args· .look) m k refl refl)
 
 array-copy-out-next : tie.Need-array-copy-out-next Inv-loop μ-loop
 array-copy-out-next c =
@@ -127,70 +126,72 @@ open-next-requires c κs =
 
 add-place : tie.Need-add-place Inv-loop μ-loop
 add-place c =
-    let loop-test· = c .before .before .before .before .before .before .before .before .before .before .before .before .before .before .loop-test in
-    let fits· = c .before .before .before .before .before .before .before .before .before .before .before .before .before .before .before .before .before .before .before .before .before .before .before .before .before .before .fits in
+    let loop-test· = c .before .before .before .before .before .before .before .before .before .before .before .before .before .before .before .loop-test in
+    let fits· = c .before .before .before .before .before .before .before .before .before .before .before .before .before .before .before .before .before .before .before .before .before .before .before .before .before .before .before .fits in
     omega (arith, loop-test· .taken, fits· .to)
 
 leaves-strokes-requires : tie.Need-leaves-strokes-requires Inv-loop μ-loop
 leaves-strokes-requires c κs =
-    let loop-test· = c .before .before .before .before .before .before .before .before .before .before .before .before .before .before .loop-test in
-    let pre· = c .before .before .before .before .before .before .before .before .before .before .before .before .before .before .before .before .before .before .before .before .before .before .before .before .before .before .pre in
+    let loop-test· = c .before .before .before .before .before .before .before .before .before .before .before .before .before .before .before .loop-test in
+    let pre· = c .before .before .before .before .before .before .before .before .before .before .before .before .before .before .before .before .before .before .before .before .before .before .before .before .before .before .before .pre in
     (omega (arith, loop-test· .taken), pre· .4)
 
 sub-after-3 : tie.Need-sub-after-3 Inv-loop μ-loop
 sub-after-3 c =
-    let loop· = c .before .before .before .before .before .before .before .before .before .before .before .before .before .before .before .before .before .loop in
+    let loop· = c .before .before .before .before .before .before .before .before .before .before .before .before .before .before .before .before .before .before .loop in
     omega (arith, loop· .inv .begun)
 
 same-length-3 : tie.Need-same-length-3 Inv-loop μ-loop
 same-length-3 c =
-    let open-next· = c .before .before .before .before .before .before .before .before .open-next in
-    let loop· = c .before .before .before .before .before .before .before .before .before .before .before .before .before .before .before .before .before .before .loop in
+    let open-next· = c .before .before .before .before .before .before .before .before .before .open-next in
+    let loop· = c .before .before .before .before .before .before .before .before .before .before .before .before .before .before .before .before .before .before .before .loop in
     open-next· .kept .1 .1 .1 .1 .1 .1 .1 .0 ∙ loop· .inv .long
 
 returns-3 : tie.Need-returns-3 Inv-loop μ-loop
 returns-3 c =
-    let args· = c .before .before .before .before .before .before .before .before .before .before .before .before .before .before .before .before .before .before .before .before .before .before .before .before .before .before .before .before .before .args in
-    let head-of· = c .before .before .before .before .before .before .before .before .before .before .before .before .before .before .before .before .before .before .before .before .before .before .before .before .before .before .head-of in
-    let opens· = c .before .before .before .before .before .before .before .before .before .before .before .before .before .opens in
-    let if3· = c .before .before .before .before .before .before .before .before .before .before .before .before .if3 in
-    let loop· = c .before .before .before .before .before .before .before .before .before .before .before .before .before .before .before .before .before .before .loop in
-    let loop-test· = c .before .before .before .before .before .before .before .before .before .before .before .before .before .before .before .before .before .loop-test in
+    let args· = c .before .before .before .before .before .before .before .before .before .before .before .before .before .before .before .before .before .before .before .before .before .before .before .before .before .before .before .before .before .before .args in
+    let head-of· = c .before .before .before .before .before .before .before .before .before .before .before .before .before .before .before .before .before .before .before .before .before .before .before .before .before .before .before .head-of in
+    let opens· = c .before .before .before .before .before .before .before .before .before .before .before .before .before .before .opens in
+    let if3· = c .before .before .before .before .before .before .before .before .before .before .before .before .before .if3 in
+    let loop· = c .before .before .before .before .before .before .before .before .before .before .before .before .before .before .before .before .before .before .before .loop in
+    let loop-test· = c .before .before .before .before .before .before .before .before .before .before .before .before .before .before .before .before .before .before .loop-test in
     let after3· = c .after3 in
-    let pre· = c .before .before .before .before .before .before .before .before .before .before .before .before .before .before .before .before .before .before .before .before .before .before .before .before .before .before .before .before .before .pre in
-    let if1· = c .before .before .before .before .before .before .before .before .before .before .before .before .before .before .before .before .if1 in
-    let open-next· = c .before .before .before .before .before .before .before .before .open-next in
+    let pre· = c .before .before .before .before .before .before .before .before .before .before .before .before .before .before .before .before .before .before .before .before .before .before .before .before .before .before .before .before .before .before .pre in
+    let if1· = c .before .before .before .before .before .before .before .before .before .before .before .before .before .before .before .before .before .if1 in
+    let open-next· = c .before .before .before .before .before .before .before .before .before .open-next in
+    let either· = c .before .before .before .before .before .before .either in
     let k : Inks _ _ (args· .look) = record { head = head-of· .ensures; size = refl } in
     let w = opens· .ensures (not-false (opens· .result) (if3· .left)) in
-    reaches-end _ _ _ _ _ _ _ _ _ _ (args· .look) _ _ _ (omega (arith, loop· .inv .begun)) (omega (arith, loop-test· .taken)) (after3· .ensures) (λ m. reaches-opened _ _ _ _ _ _ _ (args· .look) m _ _ _ _ _ _ _ (loop· .inv .begun) (pre· .0) (loop· .inv .stands) (omega (arith, if1· .left, loop· .inv .room)) (w .1) (λ o z. open-next· .ensures .0 (args· .look) o m k z) (loop· .inv .runs (args· .look) m k refl refl))
+    reaches-end _ _ _ _ _ _ _ _ _ _ _ (args· .look) _ _ _ (omega (arith, loop· .inv .begun)) (omega (arith, loop-test· .taken)) (after3· .ensures) (λ m. reaches-opened _ _ _ _ _ _ _ _ _ _ (args· .look) m _ _ _ _ _ _ (loop· .inv .begun) (pre· .0) (open-next· .ensures .1) (loop· .inv .stands) (omega (arith, if1· .left, loop· .inv .room)) (w .1) (λ t o z. open-next· .ensures .0 (args· .look) t o m k z) _ (either· .ensures) (loop· .inv .runs (args· .look) m k refl refl))
 
 loop-less : tie.Need-loop-less Inv-loop μ-loop
 loop-less c =
-    let loop-test· = c .before .before .before .before .before .before .before .before .before .before .before .before .before .before .before .before .loop-test in
+    let loop-test· = c .before .before .before .before .before .before .before .before .before .before .before .before .before .before .before .before .before .loop-test in
     omega (arith, loop-test· .taken)
 
 loop-again : tie.Need-loop-again Inv-loop μ-loop
 loop-again c =
-    let opens· = c .before .before .before .before .before .before .before .before .before .before .before .before .opens in
-    let if3· = c .before .before .before .before .before .before .before .before .before .before .before .if3 in
-    let open-next· = c .before .before .before .before .before .before .before .open-next in
-    let loop· = c .before .before .before .before .before .before .before .before .before .before .before .before .before .before .before .before .before .loop in
-    let loop-test· = c .before .before .before .before .before .before .before .before .before .before .before .before .before .before .before .before .loop-test in
-    let if1· = c .before .before .before .before .before .before .before .before .before .before .before .before .before .before .before .if1 in
-    let args· = c .before .before .before .before .before .before .before .before .before .before .before .before .before .before .before .before .before .before .before .before .before .before .before .before .before .before .before .before .args in
-    let pre· = c .before .before .before .before .before .before .before .before .before .before .before .before .before .before .before .before .before .before .before .before .before .before .before .before .before .before .before .before .pre in
+    let opens· = c .before .before .before .before .before .before .before .before .before .before .before .before .before .opens in
+    let if3· = c .before .before .before .before .before .before .before .before .before .before .before .before .if3 in
+    let open-next· = c .before .before .before .before .before .before .before .before .open-next in
+    let loop· = c .before .before .before .before .before .before .before .before .before .before .before .before .before .before .before .before .before .before .loop in
+    let loop-test· = c .before .before .before .before .before .before .before .before .before .before .before .before .before .before .before .before .before .loop-test in
+    let if1· = c .before .before .before .before .before .before .before .before .before .before .before .before .before .before .before .before .if1 in
+    let args· = c .before .before .before .before .before .before .before .before .before .before .before .before .before .before .before .before .before .before .before .before .before .before .before .before .before .before .before .before .before .args in
+    let pre· = c .before .before .before .before .before .before .before .before .before .before .before .before .before .before .before .before .before .before .before .before .before .before .before .before .before .before .before .before .before .pre in
     let role-due2· = c .before .before .role-due2 in
+    let either· = c .before .before .before .before .before .either in
     let w = opens· .ensures (not-false (opens· .result) (if3· .left)) in
     record {
-      own = open-next· .ensures .1;
+      own = open-next· .ensures .2;
       due = role-due2· .ensures;
       begun = omega (arith, loop· .inv .begun);
       within = omega (arith, loop-test· .taken);
       long = open-next· .kept .1 .1 .1 .1 .1 .1 .1 .0 ∙ loop· .inv .long;
-      room = omega (arith, if1· .left, loop· .inv .room, open-next· .ensures .2, open-next· .kept .1 .1 .1 .1 .1 .1 .1 .0);
+      room = omega (arith, if1· .left, loop· .inv .room, open-next· .ensures .3, open-next· .kept .1 .1 .1 .1 .1 .1 .1 .0);
       eight = loop· .inv .eight;
-      stands = after-moved (args· .pen) (loop· .place + 1 - args· .from) (open-next· .result .point) (omega (arith, loop· .inv .begun));
-      runs = λ l m k h t. reaches-opened _ _ _ _ _ _ _ l m _ _ _ _ _ _ _ (loop· .inv .begun) (pre· .0) (loop· .inv .stands) (omega (arith, if1· .left, loop· .inv .room)) (w .1) (λ o z. open-next· .ensures .0 l o m k z) (loop· .inv .runs l m k h t);
+      stands = stands-opened (args· .pen) (loop· .place - args· .from) (loop· .place + 1 - args· .from) (loop· .moved) (open-next· .result .moved) (loop· .point) (open-next· .result .point) _ (omega (arith, loop· .inv .begun)) (open-next· .ensures .1) (loop· .inv .stands) (either· .ensures);
+      runs = λ l m k h t. reaches-opened _ _ _ _ _ _ _ _ _ _ l m _ _ _ _ _ _ (loop· .inv .begun) (pre· .0) (open-next· .ensures .1) (loop· .inv .stands) (omega (arith, if1· .left, loop· .inv .room)) (w .1) (λ u o z. open-next· .ensures .0 l u o m k z) _ (either· .ensures) (loop· .inv .runs l m k h t);
     }
 
 point-due-requires : tie.Need-point-due-requires Inv-loop μ-loop
@@ -222,7 +223,7 @@ returns-4 c =
     let loop· = c .before .before .before .before .before .before .before .before .before .before .loop in
     let after4· = c .after4 in
     let k : Inks _ _ (args· .look) = record { head = head-of· .ensures; size = refl } in
-    reaches-end _ _ _ _ _ _ _ _ _ _ (args· .look) _ _ _ (loop· .inv .begun) (loop· .inv .within) (after4· .ensures) (λ m. loop· .inv .runs (args· .look) m k refl refl)
+    reaches-end _ _ _ _ _ _ _ _ _ _ _ (args· .look) _ _ _ (loop· .inv .begun) (loop· .inv .within) (after4· .ensures) (λ m. loop· .inv .runs (args· .look) m k refl refl)
 
 add-place-2 : tie.Need-add-place-2 Inv-loop μ-loop
 add-place-2 c =
@@ -253,8 +254,8 @@ loop-again-2 c =
       long = loop· .inv .long;
       room = loop· .inv .room;
       eight = loop· .inv .eight;
-      stands = after-moved (args· .pen) (loop· .place + 1 - args· .from) (loop· .point) (omega (arith, loop· .inv .begun));
-      runs = λ l m k h t. reaches-dropped _ _ _ _ _ _ _ l m _ _ _ (w .2) (omega (arith, if1· .left, loop· .inv .room)) (omega (arith, if2· .left)) (w .1) (loop· .inv .own) (sym (loop· .inv .due) ∙ w .0) (loop· .inv .runs l m k h t);
+      stands = stands-on (args· .pen) (loop· .place - args· .from) (loop· .place + 1 - args· .from) (loop· .moved) (loop· .point) (omega (arith, loop· .inv .begun)) (loop· .inv .stands);
+      runs = λ l m k h t. reaches-dropped _ _ _ _ _ _ _ _ l m _ _ _ (w .2) (omega (arith, if1· .left, loop· .inv .room)) (omega (arith, if2· .left)) (w .1) (loop· .inv .own) (sym (loop· .inv .due) ∙ w .0) (loop· .inv .runs l m k h t);
     }
 
 trace-requires : tie.Need-trace-requires Inv-loop μ-loop
@@ -309,8 +310,8 @@ loop-again-3 c =
       long = put-figure· .kept .1 .1 .1 .0 ∙ loop· .inv .long;
       room = omega (arith, if1· .left, loop· .inv .room, put-figure· .ensures .1, put-figure· .kept .1 .1 .1 .0);
       eight = loop· .inv .eight;
-      stands = after-moved (args· .pen) (loop· .place + args· .look .domain .multi - args· .from) (trace· .result .point) (omega (arith, loop· .inv .begun, r .0));
-      runs = λ l m k h t. reaches-point _ _ _ _ _ _ _ l m _ _ _ _ _ _ _ _ _ _ _ _ _ (loop· .inv .begun) (pre· .0) (loop· .inv .eight) (loop· .inv .stands) (loop· .inv .own) (loop· .inv .due) (w .0) (omega (arith, if1· .left, loop· .inv .room)) h (r .0) (r .1) (omega (arith, w .1, pre· .4)) t (w .2) (λ bs a e. trace· .ensures .0 l _ bs (target· .ensures .0) (target· .ensures .1) e a m) (put-figure· .ensures .0 l k) (with-due· .ensures) (loop· .inv .runs l m k h t);
+      stands = stands-moved (args· .pen) (loop· .place + args· .look .domain .multi - args· .from) (trace· .result .point) (omega (arith, loop· .inv .begun, r .0));
+      runs = λ l m k h t. reaches-point _ _ _ _ _ _ _ _ l m _ _ _ _ _ _ _ _ _ _ _ _ _ (loop· .inv .begun) (pre· .0) (loop· .inv .eight) (loop· .inv .stands) (loop· .inv .own) (loop· .inv .due) (w .0) (omega (arith, if1· .left, loop· .inv .room)) h (r .0) (r .1) (omega (arith, w .1, pre· .4)) t (w .2) (λ bs u a e. trace· .ensures .0 l _ bs (target· .ensures .0) (target· .ensures .1) e u a m) (put-figure· .ensures .0 l k) (with-due· .ensures) (loop· .inv .runs l m k h t);
     }
 
 sub-after-5 : tie.Need-sub-after-5 Inv-loop μ-loop
@@ -330,7 +331,7 @@ returns-5 c =
     let loop· = c .before .before .loop in
     let after5· = c .after5 in
     let k : Inks _ _ (args· .look) = record { head = head-of· .ensures; size = refl } in
-    reaches-end _ _ _ _ _ _ _ _ _ _ (args· .look) _ _ _ (loop· .inv .begun) (loop· .inv .within) (after5· .ensures) (λ m. loop· .inv .runs (args· .look) m k refl refl)
+    reaches-end _ _ _ _ _ _ _ _ _ _ _ (args· .look) _ _ _ (loop· .inv .begun) (loop· .inv .within) (after5· .ensures) (λ m. loop· .inv .runs (args· .look) m k refl refl)
 
 pub run-commands-spec : {M : Type 1} → statement M
 run-commands-spec =
@@ -359,6 +360,7 @@ run-commands-spec =
     (λ c. search needs)
     array-copy-out-next
     open-next-requires
+    (λ c κs. search needs)
     (λ c κs. search needs)
     add-place
     leaves-strokes-requires

@@ -1,5 +1,6 @@
-use Rattle.drawing.proofs.Prelude.{le-of-lt, arith, needs}
+use Rattle.drawing.proofs.Prelude.{le-of-lt, arith, _∙_, needs}
 use Rattle.rules.specs.Drawing.{act}
+use Rattle.figures.specs.Carried.{carry}
 use Rattle.drawing.proofs.RangeLaws.{count-most, foreground-most}
 use Rattle.drawing.proofs.act.Statement.{statement}
 use Rattle.drawing.proofs.act.Tie as tie
@@ -15,9 +16,19 @@ close-and-mark-requires c κs =
     let pre· = c .before .before .before .before .before .before .pre in
     (le-of-lt (count-most _ (pre· .0)), foreground-most _ (pre· .0), pre· .1)
 
-close-and-mark-requires-2 : tie.Need-close-and-mark-requires-2
-close-and-mark-requires-2 c κs =
-    let pre· = c .before .before .before .before .before .before .before .pre in
+close-and-format-requires : tie.Need-close-and-format-requires
+close-and-format-requires c κs =
+    let pre· = c .before .before .before .before .before .before .pre in
+    (le-of-lt (count-most _ (pre· .0)), foreground-most _ (pre· .0), pre· .1)
+
+close-and-reset-requires : tie.Need-close-and-reset-requires
+close-and-reset-requires c κs =
+    let pre· = c .before .before .before .before .before .before .pre in
+    (le-of-lt (count-most _ (pre· .0)), foreground-most _ (pre· .0), pre· .1)
+
+close-and-type-requires : tie.Need-close-and-type-requires
+close-and-type-requires c κs =
+    let pre· = c .before .before .before .before .before .before .pre in
     (le-of-lt (count-most _ (pre· .0)), foreground-most _ (pre· .0), pre· .1)
 
 close-and-open-requires : tie.Need-close-and-open-requires
@@ -54,25 +65,46 @@ returns-3 c =
 returns-4 : tie.Need-returns-4
 unfolding act
 returns-4 c =
-    let action2· = c .before .before .before .before .before .before .before .action2 in
-    let set-number· = c .before .before .before .before .before .set-number in
-    let close-and-mark2· = c .before .before .close-and-mark2 in
-    rw (action2· .given .1) (rw (set-number· .ensures) at (close-and-mark2· .ensures))
+    let action2· = c .before .before .before .before .before .before .action2 in
+    let close-and-format· = c .before .before .close-and-format in
+    rw (action2· .given .1) (close-and-format· .ensures)
 
 returns-5 : tie.Need-returns-5
 unfolding act
 returns-5 c =
     let action3· = c .before .before .before .before .before .before .action3 in
-    let close-and-open· = c .before .before .close-and-open in
-    rw (action3· .given .1) (close-and-open· .ensures)
+    let close-and-reset· = c .before .before .close-and-reset in
+    rw (action3· .given .1) (close-and-reset· .ensures)
 
 returns-6 : tie.Need-returns-6
-unfolding act
+unfolding act carry
 returns-6 c =
-    let action4· = c .before .before .before .before .before .before .before .action4 in
+    let no-record2· = c .no-record2 in
+    let action4· = c .before .before .before .action4 in
+    let placed· = c .before .placed in
+    no-record2· .ensures _ _ ∙ rw (action4· .given .1, placed· .ensures)
+
+returns-7 : tie.Need-returns-7
+unfolding act
+returns-7 c =
+    let action5· = c .before .before .before .before .before .before .action5 in
+    let close-and-type· = c .before .before .close-and-type in
+    rw (action5· .given .1) (close-and-type· .ensures)
+
+returns-8 : tie.Need-returns-8
+unfolding act
+returns-8 c =
+    let action6· = c .before .before .before .before .before .before .action6 in
+    let close-and-open· = c .before .before .close-and-open in
+    rw (action6· .given .1) (close-and-open· .ensures)
+
+returns-9 : tie.Need-returns-9
+unfolding act
+returns-9 c =
+    let action7· = c .before .before .before .before .before .before .before .action7 in
     let row-of2· = c .before .before .before .before .before .row-of2 in
     let data-byte· = c .before .before .data-byte in
-    rw (action4· .given .1) (rw (row-of2· .ensures) at (data-byte· .ensures))
+    rw (action7· .given .1) (rw (row-of2· .ensures) at (data-byte· .ensures))
 
 pub act-spec : {M : Type 1} → statement M
 act-spec =
@@ -86,8 +118,14 @@ act-spec =
     (λ c. search needs)
     close-and-mark-requires
     (λ c. search needs)
+    close-and-format-requires
+    (λ c. search needs)
+    close-and-reset-requires
+    (λ c. search needs)
     (λ c κs. search needs)
-    close-and-mark-requires-2
+    (λ c κs. search needs)
+    (λ c. search needs)
+    close-and-type-requires
     (λ c. search needs)
     close-and-open-requires
     (λ c. search needs)
@@ -102,5 +140,10 @@ act-spec =
     returns-4
     (λ c. search needs)
     returns-5
+    returns-6
     (λ c. search needs)
-    returns-6)
+    returns-7
+    (λ c. search needs)
+    returns-8
+    (λ c. search needs)
+    returns-9)

@@ -1,4 +1,5 @@
 use Rattle.drawing.proofs.Prelude.{arith, _∙_, needs}
+use Rattle.rules.specs.Drawing.{act}
 use Rattle.figures.proofs.Carrying.{then-refused, then-drawn}
 use Rattle.drawing.proofs.ActionLaws.{record-so}
 use Rattle.drawing.proofs.ClosingLaws.{close-place}
@@ -12,6 +13,7 @@ close-requires c κs =
     (row-of· .ensures, pre· .0, pre· .1, omega (arith, pre· .2))
 
 returns : tie.Need-returns
+unfolding act
 returns c =
     let close· = c .before .before .before .close in
     let if1· = c .if1 in
@@ -24,6 +26,7 @@ one-record-requires c κs =
     omega (arith, pre·, close-place _ _ _ _ (close· .ensures))
 
 returns-2 : tie.Need-returns-2
+unfolding act
 returns-2 c =
     let close· = c .before .before .before .before .before .before .before .before .close in
     let if1· = c .before .before .before .before .before .if1 in

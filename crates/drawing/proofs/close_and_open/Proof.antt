@@ -27,23 +27,22 @@ open-at-requires c κs =
 
 same-length-2 : tie.Need-same-length-2
 same-length-2 c =
-    let open-at· = c .before .before .before .before .open-at in
-    let close· = c .before .before .before .before .before .before .before .before .before .before .before .close in
+    let open-at· = c .before .before .before .open-at in
+    let close· = c .before .before .before .before .before .before .before .before .before .before .close in
     open-at· .kept .1 .1 .1 .1 .1 .0 ∙ close· .kept .1 .1 .1 .1 .1 .0
 
 returns-2 : tie.Need-returns-2
 unfolding openCommand
 returns-2 c =
-    let close· = c .before .before .before .before .before .before .before .before .before .before .before .close in
-    let head-of· = c .before .before .before .before .before .before .before .head-of in
-    let if1· = c .before .before .before .before .before .before .before .before .if1 in
-    let pre· = c .before .before .before .before .before .before .before .before .before .before .before .before .before .before .before .before .pre in
+    let close· = c .before .before .before .before .before .before .before .before .before .before .close in
+    let head-of· = c .before .before .before .before .before .before .head-of in
+    let if1· = c .before .before .before .before .before .before .before .if1 in
+    let pre· = c .before .before .before .before .before .before .before .before .before .before .before .before .before .before .before .pre in
     let no-record· = c .no-record in
-    let moved· = c .before .moved in
-    let open-at· = c .before .before .before .before .open-at in
+    let open-at· = c .before .before .before .open-at in
     let k : Inks _ _ (close· .result .look) = record { head = head-of· .ensures; size = refl } in
     then-drawn _ _ _ _ _ _ _ (close· .ensures) (if1· .left) (omega (arith, pre·)) tt
-    (no-record· .ensures _ _ ∙ (carry-none _ _ _ _ ∙ rw (moved· .ensures) (open-at· .ensures .0 _ _ _ _ k)))
+    (no-record· .ensures _ _ ∙ (carry-none _ _ _ _ ∙ open-at· .ensures .0 _ _ _ _ _ k))
 
 pub close-and-open-spec : {M : Type 1} → statement M
 close-and-open-spec =
@@ -56,7 +55,6 @@ close-and-open-spec =
     (λ c κs. tt)
     (λ c κs. tt)
     open-at-requires
-    (λ c κs. tt)
     (λ c κs. tt)
     same-length-2
     returns-2)

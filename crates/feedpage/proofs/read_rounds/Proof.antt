@@ -1,5 +1,5 @@
 use borrow.Author.Needs.{needs}
-use mathlib.Core.Path.{_≡_}
+use mathlib.Core.Path.{_≡_, _∙_}
 use lib.ListN.{length}
 use Rattle.feedpage.proofs.read_rounds.Statement.{statement}
 use Rattle.feedpage.proofs.read_rounds.Tie as tie
@@ -42,7 +42,10 @@ loop-less : tie.Need-loop-less Inv-loop μ-loop
 loop-less c = search needs
 
 loop-again : tie.Need-loop-again Inv-loop μ-loop
-loop-again c = search needs
+loop-again c =
+    let read-again· = c .before .before .read-again in
+    let loop· = c .before .before .before .before .before .before .before .before .before .before .before .before .before .loop in
+    read-again· .kept .1 .0 ∙ loop· .inv
 
 same-length-2 : tie.Need-same-length-2 Inv-loop μ-loop
 same-length-2 c = search needs

@@ -22,13 +22,13 @@ returns-2 : tie.Need-returns-2
 returns-2 c =
     let args· = c .before .before .before .before .before .before .before .before .before .before .before .before .before .args in
     let head-of· = c .before .before .before .before .before .before .head-of in
-    let moved· = c .before .moved in
+    let follow· = c .before .follow in
     let trace· = c .before .before .before .before .before .before .before .trace in
     let target· = c .before .before .before .before .before .before .before .before .target in
     let put-figure· = c .before .before .before .before .put-figure in
     let k : Inks _ _ (args· .look) = record { head = head-of· .ensures; size = refl } in
-    λ bs e m. rw (moved· .ensures)
-    (puts-carried _ _ _ _ _ _ (trace· .ensures .0 (args· .look) _ bs (target· .ensures .0) (target· .ensures .1) e (args· .pen .operand) m) (put-figure· .ensures .0 (args· .look) k))
+    λ bs e m. rw (follow· .ensures)
+    (puts-carried _ _ _ _ _ _ (trace· .ensures .0 (args· .look) _ bs (target· .ensures .0) (target· .ensures .1) e (args· .pen .text) (args· .pen .operand) m) (put-figure· .ensures .0 (args· .look) k))
 
 pub draw-point-spec : {M : Type 1} → statement M
 draw-point-spec =

@@ -35,15 +35,22 @@ returns-5 : tie.Need-returns-5
 unfolding control
 returns-5 c =
     let enum-told3· = c .before .enum-told3 in
-    let refuse· = c .refuse in
-    λ s f st. rw (enum-told3· .given .1) (refuse· .ensures s f st)
+    let act· = c .act in
+    λ s f st. rw (enum-told3· .given .1) (act· .ensures s f st)
 
 returns-6 : tie.Need-returns-6
 unfolding control
 returns-6 c =
-    let enum-told4· = c .before .enum-told4 in
-    let act· = c .act in
-    λ s f st. rw (enum-told4· .given .1) (act· .ensures s f st)
+    let k3· = c .before .before .k3 in
+    let act2· = c .act2 in
+    λ s f st. rw (k3· .given .1) (act2· .ensures s f st)
+
+returns-7 : tie.Need-returns-7
+unfolding control
+returns-7 c =
+    let k4· = c .before .before .k4 in
+    let position· = c .position in
+    λ s f st. rw (k4· .given .1) (position· .ensures s f st)
 
 pub control-spec : {M : Type 1} → statement M
 control-spec =
@@ -61,9 +68,12 @@ control-spec =
     (λ c κs. search needs)
     (λ c. search needs)
     (λ c κs. search needs)
+    (λ c. search needs)
+    (λ c κs. search needs)
     returns
     returns-2
     returns-3
     returns-4
     returns-5
-    returns-6)
+    returns-6
+    returns-7)

@@ -1,5 +1,6 @@
 use Rattle.rules.specs.Coding.{graphic}
-use borrow.Author.Needs.{needs}
+use Rattle.coding.specs.Prelude.{_∙_, needs}
+use Rattle.coding.proofs.ReactLaws.{character-acts}
 use Rattle.coding.proofs.characters.graphic.Statement.{statement}
 use Rattle.coding.proofs.characters.graphic.Tie as tie
 
@@ -9,7 +10,7 @@ returns c =
     let set· = c .before .before .before .set in
     let character· = c .before .character in
     let act· = c .act in
-    λ s f st. rw (set· .given .1, ← character· .ensures) (act· .ensures s f st)
+    λ s f st. rw (set· .given .1) (act· .ensures s f st ∙ character-acts _ _ s f st (character· .result) (character· .ensures))
 
 returns-2 : tie.Need-returns-2
 unfolding graphic

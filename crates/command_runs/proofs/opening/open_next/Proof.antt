@@ -24,8 +24,8 @@ put-mark-requires c κs =
     let put-figure· = c .before .before .before .before .before .put-figure in
     omega (arith, pre·, put-figure· .ensures .1, put-figure· .kept .1 .1 .1 .0)
 
-add-t20 : tie.Need-add-t20
-add-t20 c =
+add-t23 : tie.Need-add-t23
+add-t23 c =
     let pre· = c .before .before .before .before .before .before .before .before .before .before .before .before .before .pre in
     let put-figure· = c .before .before .before .before .before .before .before .before .put-figure in
     let good· = c .before .before .before .before .before .before .before .before .before .before .before .before .before .good in
@@ -46,7 +46,8 @@ returns c =
     let if1· = c .before .before .before .before .before .if1 in
     let new-command· = c .new-command in
     let put-mark· = c .before .before .before .put-mark in (
-      λ l o m k z. next-control _ _ o _ l m _ _ _ _ _ (closed _ _ o _ l m _ _ _ _ _ _ (pre· .0) (role-due· .ensures) z (omega (arith, pre·)) (puts-carried _ _ _ _ _ _ (finish· .ensures l o m) (put-figure· .ensures .0 l k))) (omega (arith, pre·)) _ _ (if1· .taken) (new-command· .ensures) (put-mark· .ensures l k),
+      λ l t o m k z. next-control _ (finish· .result .point) (finish· .result .moved) t o _ l m _ _ _ _ _ (closed _ (finish· .result .point) (finish· .result .moved) t o _ l m _ _ _ _ _ _ (pre· .0) (role-due· .ensures) z (omega (arith, pre·)) (puts-carried _ _ _ _ _ _ (finish· .ensures .0 l t o m) (put-figure· .ensures .0 l k))) (omega (arith, pre·)) (finish· .ensures .1) _ _ (if1· .taken) (new-command· .ensures) (put-mark· .ensures l k),
+      finish· .ensures .1,
       pre· .3 ∙ row-control _ (if1· .taken) ∙ ap (λ (x : Command). rowOf (x .opcode)) (sym (new-command· .ensures)),
       omega (arith, put-figure· .ensures .1),
     )
@@ -59,19 +60,20 @@ open-at-requires c κs =
 
 same-length-2 : tie.Need-same-length-2
 same-length-2 c =
-    let open-at· = c .before .before .open-at in
-    let put-figure· = c .before .before .before .before .before .before .before .before .put-figure in
+    let open-at· = c .before .before .before .open-at in
+    let put-figure· = c .before .before .before .before .before .before .before .before .before .put-figure in
     open-at· .kept .1 .1 .1 .1 .1 .0 ∙ put-figure· .kept .1 .1 .1 .0
 
 returns-2 : tie.Need-returns-2
 returns-2 c =
-    let pre· = c .before .before .before .before .before .before .before .before .before .before .before .before .before .pre in
-    let role-due· = c .before .before .before .before .before .before .before .before .before .before .before .role-due in
-    let finish· = c .before .before .before .before .before .before .before .before .before .before .finish in
-    let put-figure· = c .before .before .before .before .before .before .before .before .put-figure in
-    let if1· = c .before .before .before .before .if1 in
-    let open-at· = c .before .before .open-at in (
-      λ l o m k z. next-opened _ _ o _ l m _ _ _ _ _ (closed _ _ o _ l m _ _ _ _ _ _ (pre· .0) (role-due· .ensures) z (omega (arith, pre·)) (puts-carried _ _ _ _ _ _ (finish· .ensures l o m) (put-figure· .ensures .0 l k))) (omega (arith, pre·)) _ _ _ _ (if1· .left) (open-at· .ensures .0 l _ _ m k),
+    let pre· = c .before .before .before .before .before .before .before .before .before .before .before .before .before .before .pre in
+    let role-due· = c .before .before .before .before .before .before .before .before .before .before .before .before .role-due in
+    let finish· = c .before .before .before .before .before .before .before .before .before .before .before .finish in
+    let put-figure· = c .before .before .before .before .before .before .before .before .before .put-figure in
+    let if1· = c .before .before .before .before .before .if1 in
+    let open-at· = c .before .before .before .open-at in (
+      λ l t o m k z. next-opened _ (finish· .result .point) (finish· .result .moved) t o _ l m _ _ _ _ _ (closed _ (finish· .result .point) (finish· .result .moved) t o _ l m _ _ _ _ _ _ (pre· .0) (role-due· .ensures) z (omega (arith, pre·)) (puts-carried _ _ _ _ _ _ (finish· .ensures .0 l t o m) (put-figure· .ensures .0 l k))) (omega (arith, pre·)) (finish· .ensures .1) _ _ _ (if1· .left) (open-at· .ensures .0 l _ _ _ m k),
+      finish· .ensures .1,
       pre· .3 ∙ ap rowOf (sym (open-at· .ensures .1 .0)),
       omega (arith, put-figure· .ensures .1, open-at· .ensures .1 .1),
     )
@@ -84,7 +86,7 @@ open-next-spec =
     finish-requires
     put-figure-requires
     put-mark-requires
-    add-t20
+    add-t23
     (λ c κs. search needs)
     same-length
     returns

@@ -10,7 +10,7 @@ returns c =
     let pre· = c .before .before .before .before .before .before .before .before .pre in
     let if1· = c .before .before .before .before .if1 in
     let put-mark· = c .before .before .put-mark in (
-      λ l o s m k. open-marked _ _ _ _ _ _ (new-command· .ensures) (pre· .0) _ (if1· .taken) (put-mark· .ensures l k),
+      λ l t o s m k. open-marked _ _ _ _ _ _ (new-command· .ensures) (pre· .0) _ (if1· .taken) (put-mark· .ensures l k),
       (ap (λ (x : Command). x .opcode) (new-command· .ensures), le-refl _),
     )
 
@@ -19,7 +19,7 @@ returns-2 c =
     let new-command· = c .before .before .new-command in
     let pre· = c .before .before .before .before .pre in
     let if1· = c .if1 in (
-      λ l o s m k. open-unmarked _ _ _ _ _ _ (new-command· .ensures) (pre· .0) (if1· .left),
+      λ l t o s m k. open-unmarked _ _ _ _ _ _ (new-command· .ensures) (pre· .0) (if1· .left),
       (ap (λ (x : Command). x .opcode) (new-command· .ensures), le-add-right _ 40),
     )
 

@@ -27,7 +27,7 @@ returns-3 c =
     let if2· = c .before .before .before .if2 in
     let has-three· = c .has-three in
     let good· = c .before .before .before .before .before .before .before .good in
-    let operand = good· .0 .1 .1 .1 .0 in
+    let operand = good· .0 .1 .1 .1 .1 .0 in
     λ h kind drawn. ready-told (args· .pen) (args· .command) (args· .look) (search (needs, operand)) (if1· .left) (is-first· .ensures (not-false (is-first· .result) (if2· .left))) _ (has-three· .ensures) h drawn
 
 pub is-ready-spec : {M : Type 1} → statement M

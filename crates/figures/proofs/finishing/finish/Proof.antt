@@ -1,3 +1,5 @@
+use Rattle.figures.specs.Prelude.{refl}
+use Rattle.rules.proofs.Bools.{true-false}
 use Rattle.figures.proofs.FinishLaws.{finish-arc, finish-edge, finish-edgeless, finish-plain}
 use borrow.Author.Needs.{needs}
 use Rattle.figures.proofs.finishing.finish.Statement.{statement}
@@ -7,7 +9,7 @@ returns : tie.Need-returns
 returns c =
     let enum-told· = c .before .enum-told in
     let arc· = c .arc in
-    λ l o m. finish-arc _ _ _ o _ l m _ (enum-told· .given .1) (arc· .ensures)
+    (λ l t o m. finish-arc _ _ _ t o _ l m _ (enum-told· .given .1) (arc· .ensures), λ e. true-false e)
 
 returns-2 : tie.Need-returns-2
 returns-2 c =
@@ -15,21 +17,21 @@ returns-2 c =
     let flags· = c .before .flags in
     let span2· = c .span2 in
     let if1· = c .before .before .if1 in
-    λ l o m. finish-edge _ _ _ o _ l m _ (enum-told2· .given .1) _ (flags· .ensures) (span2· .ensures) (if1· .taken)
+    (λ l t o m. finish-edge _ _ _ t o _ l m _ (enum-told2· .given .1) _ (flags· .ensures) (span2· .ensures) (if1· .taken), λ e. true-false e)
 
 returns-3 : tie.Need-returns-3
 returns-3 c =
     let enum-told2· = c .before .before .enum-told2 in
     let span· = c .before .before .before .before .span in
     let if1· = c .if1 in
-    λ l o m. finish-edgeless _ _ _ o _ l m _ (enum-told2· .given .1) (span· .ensures) (if1· .left)
+    (λ l t o m. finish-edgeless _ _ _ t o _ l m _ (enum-told2· .given .1) (span· .ensures) (if1· .left), λ e. refl)
 
 returns-4 : tie.Need-returns-4
 returns-4 c =
     let match· = c .match in
     let pre· = c .before .before .before .pre in
     let span· = c .before .span in
-    λ l o m. finish-plain _ _ _ o _ l m _ (match· .keys3) (pre·) (span· .ensures)
+    (λ l t o m. finish-plain _ _ _ t o _ l m _ (match· .keys3) (pre·) (span· .ensures), λ e. refl)
 
 pub finish-spec : {M : Type 1} → statement M
 finish-spec =

@@ -21,9 +21,16 @@ returns-2 c =
 returns-3 : tie.Need-returns-3
 unfolding waitingFits
 returns-3 c =
+    let w3· = c .before .before .w3 in
+    let row-fits· = c .row-fits in
+    rw (w3· .given .1) (row-fits· .ensures)
+
+returns-4 : tie.Need-returns-4
+unfolding waitingFits
+returns-4 c =
     let args· = c .before .args in
     let match· = c .match in
-    others-fit (args· .w) (match· .keys3)
+    others-fit (args· .w) (match· .keys4)
 
 pub waiting-fits-spec : {M : Type 1} → statement M
 waiting-fits-spec =
@@ -33,6 +40,9 @@ waiting-fits-spec =
     (λ c κs. search needs)
     (λ c. search needs)
     (λ c κs. search needs)
+    (λ c. search needs)
+    (λ c κs. search needs)
     returns
     returns-2
-    returns-3)
+    returns-3
+    returns-4)

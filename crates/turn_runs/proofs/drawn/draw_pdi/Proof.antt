@@ -1,6 +1,7 @@
 use Rattle.drawing_runs.specs.Run.{none}
-use Rattle.turn_runs.specs.Prelude.{arith, ap, [], needs}
-use Rattle.turn_runs.proofs.ProgressLaws.{run-still, pen-rests}
+use Rattle.turn_runs.specs.Prelude.{arith, ap, _∙_, true, [], needs}
+use Rattle.drawing_runs.proofs.StrokeLaws.{after-begun}
+use Rattle.turn_runs.proofs.ProgressLaws.{run-still}
 use Rattle.turn_runs.proofs.drawn.draw_pdi.Statement.{statement}
 use Rattle.turn_runs.proofs.drawn.draw_pdi.Tie as tie
 
@@ -16,10 +17,11 @@ returns c =
 returns-2 : tie.Need-returns-2
 returns-2 c =
     let resting· = c .resting in
-    let args· = c .before .before .before .before .before .before .before .before .before .before .before .args in
-    let draw-strokes· = c .before .before .before .before .before .draw-strokes in
-    let if2· = c .before .if2 in
-    (λ m. rw (resting· .ensures, pen-rests (args· .pen) _ (draw-strokes· .result .point) (if2· .taken)) (draw-strokes· .ensures .0 m), draw-strokes· .ensures .1)
+    let args· = c .before .before .before .before .before .before .before .before .before .before .before .before .args in
+    let draw-strokes· = c .before .before .before .before .before .before .draw-strokes in
+    let if2· = c .before .before .if2 in
+    let follow· = c .before .follow in
+    (λ m. rw (resting· .ensures ∙ after-begun (args· .pen) _ true (draw-strokes· .result .point) _ (if2· .taken) (follow· .ensures)) (draw-strokes· .ensures .0 m), draw-strokes· .ensures .1)
 
 returns-3 : tie.Need-returns-3
 returns-3 c =
@@ -35,6 +37,7 @@ draw-pdi-spec =
     (tie.spec
     none-drawn-requires
     returns
+    (λ c κs. search needs)
     (λ c κs. search needs)
     (λ c κs. search needs)
     (λ c. search needs)

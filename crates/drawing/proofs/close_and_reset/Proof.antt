@@ -1,0 +1,38 @@
+use Rattle.drawing.proofs.Prelude.{_∙_, needs}
+use Rattle.rules.specs.Drawing.{reset, act}
+use Rattle.figures.proofs.Carrying.{carry-none}
+use Rattle.drawing.proofs.ActionLaws.{marked-refused, marked-acts}
+use Rattle.drawing.proofs.close_and_reset.Statement.{statement}
+use Rattle.drawing.proofs.close_and_reset.Tie as tie
+
+returns : tie.Need-returns
+unfolding act
+returns c =
+    let close-and-mark· = c .before .before .before .close-and-mark in
+    let if1· = c .if1 in
+    marked-refused _ _ _ _ _ _ (close-and-mark· .ensures) (if1· .taken)
+
+returns-2 : tie.Need-returns-2
+unfolding act
+returns-2 c =
+    let close-and-mark· = c .before .before .before .before .before .before .before .close-and-mark in
+    let if1· = c .before .before .before .before .if1 in
+    let no-record· = c .no-record in
+    let with-text· = c .before .before .with-text in
+    let reset-text· = c .before .before .before .reset-text in
+    let reset-look· = c .before .reset-look in
+    no-record· .ensures _ _ ∙ (carry-none _ _ _ _ ∙ rw (with-text· .ensures, reset-text· .ensures, reset-look· .ensures) (marked-acts _ reset _ _ _ _ (close-and-mark· .ensures) (if1· .left)))
+
+pub close-and-reset-spec : {M : Type 1} → statement M
+close-and-reset-spec =
+    tie.close
+    (tie.spec
+    (λ c κs. search needs)
+    (λ c. search needs)
+    returns
+    (λ c κs. search needs)
+    (λ c κs. search needs)
+    (λ c κs. search needs)
+    (λ c κs. search needs)
+    (λ c. search needs)
+    returns-2)

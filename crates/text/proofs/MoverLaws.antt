@@ -1,0 +1,240 @@
+-- The steps of the code that moves the cursor, put together to the rules
+use Rattle.text.specs.Prelude.{List, [], _∷_, ℕ, _+_, _*_, _-_, _^_, _<_, _≤_, _≡_, refl, sym, ap, _∙_, Bool, true, false, arith, mul-le-mul}
+use Rattle.text.specs.Prelude.{zero-mul, eq-eqb, ne-eqb}
+use types.Run.{OneOf, miss}
+use denote.Enum.Declared.{tagOf}
+use Rattle.rules.proofs.Repertoire.{the-type as the-repertoire}
+use Rattle.rules.specs.declared.Repertoire.{Repertoire}
+use Rattle.rules.specs.declared.Repertoire.the-variants.{Primary, Supplementary, Mosaic, Drcs}
+use Rattle.rules.specs.declared.Coordinate.{Coordinate}
+use Rattle.rules.specs.declared.Due.{Due}
+use Rattle.rules.specs.declared.Due.the-variants.{First, Second, Third, Past}
+use Rattle.rules.specs.declared.FieldBox.{FieldBox}
+use Rattle.rules.specs.declared.Pair.{Pair}
+use Rattle.rules.specs.declared.Pair.the-variants.{NoPair, Automatic, ReturnSeen, FeedSeen}
+use Rattle.rules.specs.declared.Path.{Path}
+use Rattle.rules.specs.declared.Pen.{Pen}
+use Rattle.rules.specs.declared.Point.{Point}
+use Rattle.rules.specs.declared.Reach.{Reach}
+use Rattle.rules.specs.declared.Settings.{Settings}
+use Rattle.rules.specs.declared.Text.{Text}
+use Rattle.rules.specs.Text.{spaces}
+use Rattle.rules.specs.Numbers.{displayTop, freshWidth, freshHeight}
+use Rattle.rules.specs.Text.{magnitude, coordinateOf, positive, fieldFits, afterStride, entryEdge, rowStep, fieldBox}
+use Rattle.rules.specs.Text.{spacingQuarters, interrowQuarters, opposite, rowDirection, alongX, forwards, onAxis, withSettings}
+use Rattle.rules.specs.Text.{paired, setCursor, cursorAlong, reachAlong, setAlong, nextAlong, fitsNext, enter, rowIn, rowDown}
+use Rattle.rules.specs.Text.{rowUp, firstPosition, automaticPair, advance, apb, home, returnIn, feedIn, coded, byteOne, byteTwo}
+use Rattle.rules.specs.Text.{withMissing, closeText, addressed, positioned}
+use Rattle.rules.proofs.Bools.{pick-yes, pick-no}
+
+-- By the axis of a direction
+module _ {A : Type 0} (d : Path) (b : Bool) (x y : A) (e : b ≡ alongX d) where
+  pub axis-x : b ≡ true → x ≡ onAxis d x y
+  axis-x h = sym (pick-yes x y (sym e ∙ h))
+
+  pub axis-y : b ≡ false → y ≡ onAxis d x y
+  axis-y h = sym (pick-no x y (sym e ∙ h))
+
+module _ (d : Path) (b : Bool) (t : Text) (k : FieldBox) (e : b ≡ alongX d) (f : k ≡ fieldBox t) where
+  pub reach-x : b ≡ true → k .x ≡ reachAlong d t
+  reach-x h = ap (λ (z : FieldBox). z .x) f ∙ axis-x d b (fieldBox t .x) (fieldBox t .y) e h
+
+  pub reach-y : b ≡ false → k .y ≡ reachAlong d t
+  reach-y h = ap (λ (z : FieldBox). z .y) f ∙ axis-y d b (fieldBox t .x) (fieldBox t .y) e h
+
+module _ (d : Path) (b : Bool) (p q : Coordinate) (s o : Pen) (e : b ≡ alongX d) where
+  pub set-along-x : b ≡ true → q ≡ coordinateOf (s .text .cursor .y) → o ≡ setCursor p q s → o ≡ setAlong d p s
+  unfolding setAlong
+  set-along-x h f g =
+      let x = coordinateOf (s .text .cursor .x) in
+      let y = coordinateOf (s .text .cursor .y) in
+      let u = axis-x d b p x e h in
+      let v = f ∙ axis-x d b y p e h in
+      g ∙ (λ i. setCursor (u i) (v i) s)
+
+  pub set-along-y : b ≡ false → q ≡ coordinateOf (s .text .cursor .x) → o ≡ setCursor q p s → o ≡ setAlong d p s
+  unfolding setAlong
+  set-along-y h f g =
+      let x = coordinateOf (s .text .cursor .x) in
+      let y = coordinateOf (s .text .cursor .y) in
+      let u = f ∙ axis-y d b p x e h in
+      let v = axis-y d b y p e h in
+      g ∙ (λ i. setCursor (u i) (v i) s)
+
+pub next-of : (d : Path) (t : Text) (r : Reach) (w : Bool) (q c : ℕ) (p : Coordinate) → r ≡ reachAlong d t → w ≡ forwards d → q ≡ spacingQuarters (t .settings .spacing) → c ≡ cursorAlong d t → p ≡ afterStride r w q c → p ≡ nextAlong d t
+unfolding nextAlong
+next-of d t r w q c p e f g h k = k ∙ (λ i. afterStride (e i) (f i) (g i) (h i))
+
+pub fits-next-of : (d : Path) (t : Text) (r : Reach) (p : Coordinate) (b : Bool) → r ≡ reachAlong d t → p ≡ nextAlong d t → b ≡ fieldFits r p → b ≡ fitsNext d t
+unfolding fitsNext
+fits-next-of d t r p b e f g = g ∙ (λ i. fieldFits (e i) (f i))
+
+pub enter-of : (d : Path) (s o : Pen) (r : Reach) (w : Bool) (p : Coordinate) → r ≡ reachAlong d (s .text) → w ≡ forwards d → p ≡ entryEdge r w → o ≡ setAlong d p s → o ≡ enter d s
+unfolding enter
+enter-of d s o r w p e f g h = h ∙ ap (λ (z : Coordinate). setAlong d z s) (g ∙ (λ i. entryEdge (e i) (f i)))
+
+pub row-in-of : (d : Path) (s o : Pen) (r : Reach) (w : Bool) (q c : ℕ) (p : Coordinate) → r ≡ reachAlong d (s .text) → w ≡ forwards d → q ≡ interrowQuarters (s .text .settings .interrow) → c ≡ cursorAlong d (s .text) → p ≡ rowStep r w q c → o ≡ setAlong d p s → o ≡ rowIn d s
+unfolding rowIn
+row-in-of d s o r w q c p e f g h k l = l ∙ ap (λ (z : Coordinate). setAlong d z s) (k ∙ (λ i. rowStep (e i) (f i) (g i) (h i)))
+
+pub row-down-of : (s o : Pen) (a d : Path) → a ≡ s .text .settings .path → d ≡ rowDirection a → o ≡ rowIn d s → o ≡ rowDown s
+unfolding rowDown
+row-down-of s o a d e f g = g ∙ ap (λ (z : Path). rowIn z s) (f ∙ ap rowDirection e)
+
+pub row-up-of : (s o : Pen) (a b d : Path) → a ≡ s .text .settings .path → b ≡ rowDirection a → d ≡ opposite b → o ≡ rowIn d s → o ≡ rowUp s
+unfolding rowUp
+row-up-of s o a b d e f g h = h ∙ ap (λ (z : Path). rowIn z s) (g ∙ ap opposite (f ∙ ap rowDirection e))
+
+pub first-of : (s o : Pen) (d : Path) → d ≡ s .text .settings .path → o ≡ enter d s → o ≡ firstPosition s
+unfolding firstPosition
+first-of s o d e f = f ∙ ap (λ (z : Path). enter z s) e
+
+pub automatic-of : (s a b o : Pen) → a ≡ firstPosition s → b ≡ rowDown a → o ≡ paired Automatic b → o ≡ automaticPair s
+unfolding automaticPair
+automatic-of s a b o e f g = g ∙ ap (paired Automatic) (f ∙ ap rowDown e)
+
+-- The place of a move that fits, in a direction d that is D
+oneStep : (s o : Pen) (d D : Path) (p : Coordinate) → d ≡ D → p ≡ nextAlong d (s .text) → o ≡ setAlong d p s → o ≡ setAlong D (nextAlong D (s .text)) s
+oneStep s o d D p e f g =
+    let q = f ∙ ap (λ (z : Path). nextAlong z (s .text)) e in
+    g ∙ (λ i. setAlong (e i) (q i) s)
+
+module _ (s o : Pen) (d : Path) (b : Bool) (e : d ≡ s .text .settings .path) (f : b ≡ fitsNext d (s .text)) where
+  pub forward-moves : (p : Coordinate) → b ≡ true → p ≡ nextAlong d (s .text) → o ≡ setAlong d p s → o ≡ advance s
+  unfolding advance
+  forward-moves p h g k =
+      let D = s .text .settings .path in
+      oneStep s o d D p e g k ∙ sym (pick-yes (setAlong D (nextAlong D (s .text)) s) (automaticPair s) (sym (f ∙ ap (λ (z : Path). fitsNext z (s .text)) e) ∙ h))
+
+  pub forward-wraps : b ≡ false → o ≡ automaticPair s → o ≡ advance s
+  unfolding advance
+  forward-wraps h k =
+      let D = s .text .settings .path in
+      k ∙ sym (pick-no (setAlong D (nextAlong D (s .text)) s) (automaticPair s) (sym (f ∙ ap (λ (z : Path). fitsNext z (s .text)) e) ∙ h))
+
+module _ (s o : Pen) (a d : Path) (b : Bool) (l : a ≡ s .text .settings .path) (e : d ≡ opposite a) (f : b ≡ fitsNext d (s .text)) where
+  pub backward-moves : (p : Coordinate) → b ≡ true → p ≡ nextAlong d (s .text) → o ≡ setAlong d p s → o ≡ apb s
+  unfolding apb
+  backward-moves p h g k =
+      let D = opposite (s .text .settings .path) in
+      let m = e ∙ ap opposite l in
+      oneStep s o d D p m g k ∙ sym (pick-yes (setAlong D (nextAlong D (s .text)) s) (rowUp (enter D s)) (sym (f ∙ ap (λ (z : Path). fitsNext z (s .text)) m) ∙ h))
+
+  pub backward-leaves : (q : Pen) → b ≡ false → q ≡ enter d s → o ≡ rowUp q → o ≡ apb s
+  unfolding apb
+  backward-leaves q h g k =
+      let D = opposite (s .text .settings .path) in
+      let m = e ∙ ap opposite l in
+      k ∙ ap rowUp (g ∙ ap (λ (z : Path). enter z s) m) ∙ sym (pick-no (setAlong D (nextAlong D (s .text)) s) (rowUp (enter D s)) (sym (f ∙ ap (λ (z : Path). fitsNext z (s .text)) m) ∙ h))
+
+pub home-of : (s o : Pen) (k : FieldBox) → k ≡ fieldBox (s .text) → o ≡ setCursor (positive (k .x .before)) (record { ahead = displayTop; back = k .y .after }) s → o ≡ home s
+unfolding home
+home-of s o k e f = f ∙ ap (λ (z : FieldBox). setCursor (positive (z .x .before)) (record { ahead = displayTop; back = z .y .after }) s) e
+
+-- By the state after an automatic pair
+pub return-is : (v w : Pair) (s o : Pen) → w ≡ v → o ≡ returnIn v s → o ≡ returnIn w s
+return-is v w s o e f = f ∙ ap (λ (z : Pair). returnIn z s) (sym e)
+
+pub feed-is : (v w : Pair) (s o : Pen) → w ≡ v → o ≡ feedIn v s → o ≡ feedIn w s
+feed-is v w s o e f = f ∙ ap (λ (z : Pair). feedIn z s) (sym e)
+
+pub return-first : (s o : Pen) → o ≡ firstPosition s → o ≡ returnIn NoPair s
+unfolding returnIn
+return-first s o e = e
+
+pub return-null : (s o : Pen) → o ≡ paired ReturnSeen s → o ≡ returnIn Automatic s
+unfolding returnIn
+return-null s o e = e
+
+pub return-again : (s : Pen) → s ≡ returnIn ReturnSeen s
+unfolding returnIn
+return-again s = refl
+
+pub return-back : (s o : Pen) (p : Point) (x y : Coordinate) → x ≡ coordinateOf (p .x) → y ≡ coordinateOf (p .y) → o ≡ setCursor x y s → o ≡ returnIn (FeedSeen p) s
+unfolding returnIn
+return-back s o p x y e f g = g ∙ (λ i. setCursor (e i) (f i) s)
+
+pub feed-down : (s o : Pen) → o ≡ rowDown s → o ≡ feedIn NoPair s
+unfolding feedIn
+feed-down s o e = e
+
+pub feed-first : (s o q : Pen) → q ≡ rowDown s → o ≡ paired (FeedSeen (s .text .cursor)) q → o ≡ feedIn Automatic s
+unfolding feedIn
+feed-first s o q e f = f ∙ ap (paired (FeedSeen (s .text .cursor))) e
+
+pub feed-null : (s o : Pen) → o ≡ paired NoPair s → o ≡ feedIn ReturnSeen s
+unfolding feedIn
+feed-null s o e = e
+
+pub feed-again : (s o : Pen) (p : Point) → o ≡ rowDown s → o ≡ feedIn (FeedSeen p) s
+unfolding feedIn
+feed-again s o p e = e
+
+-- TEXT's bytes: a code of two bits
+module _ {A : Type 0} (n : ℕ) (a b c d : A) where
+  pub code-0 : n ≡ 0 → a ≡ coded n a b c d
+  code-0 e = rw (eq-eqb n 0 e)
+
+  pub code-1 : (n ≡ 0 → ⊥) → n ≡ 1 → b ≡ coded n a b c d
+  code-1 h e = rw (ne-eqb n 0 h, eq-eqb n 1 e)
+
+  pub code-2 : (n ≡ 0 → ⊥) → (n ≡ 1 → ⊥) → n ≡ 2 → c ≡ coded n a b c d
+  code-2 h k e = rw (ne-eqb n 0 h, ne-eqb n 1 k, eq-eqb n 2 e)
+
+  pub code-3 : (n ≡ 0 → ⊥) → (n ≡ 1 → ⊥) → (n ≡ 2 → ⊥) → d ≡ coded n a b c d
+  code-3 h k l = rw (ne-eqb n 0 h, ne-eqb n 1 k, ne-eqb n 2 l)
+
+pub complete-first : (n : Due) (s o r : Settings) → n ≡ First → r ≡ byteOne 0 s → o ≡ byteTwo 0 r → o ≡ withMissing n s
+unfolding withMissing
+complete-first n s o r e f g = rw e (g ∙ ap (byteTwo 0) f)
+
+pub complete-second : (n : Due) (s o : Settings) → n ≡ Second → o ≡ byteTwo 0 s → o ≡ withMissing n s
+unfolding withMissing
+complete-second n s o e g = rw e g
+
+pub complete-third : (n : Due) (s : Settings) → n ≡ Third → s ≡ withMissing n s
+unfolding withMissing
+complete-third n s e = rw e
+
+pub complete-past : (n : Due) (s : Settings) → n ≡ Past → s ≡ withMissing n s
+unfolding withMissing
+complete-past n s e = rw e
+
+pub close-of : (n : Due) (s o : Pen) (k : Settings) (t : Text) (x y : Coordinate) → k ≡ withMissing n (s .text .settings) → t ≡ withSettings k (s .text) → x ≡ coordinateOf (s .text .cursor .x) → y ≡ coordinateOf (s .text .cursor .y) → o ≡ setCursor x y (record { point = s .point; text = t; operand = s .operand }) → o ≡ closeText n s
+unfolding closeText
+close-of n s o k t x y e f g h l =
+    let m = f ∙ ap (λ (z : Settings). withSettings z (s .text)) e in
+    l ∙ (λ i. setCursor (g i) (h i) (record { point = s .point; text = m i; operand = s .operand }))
+
+-- Rows and columns
+pub no-fields : (b n : ℕ) → b ≤ 32 → 0 ≡ (b - 32) * n
+no-fields b n h = sym (zero-mul n) ∙ ap (λ (z : ℕ). z * n) none
+  where
+    none : 0 ≡ b - 32
+    none = omega arith
+
+pub fields-fit : {b n : ℕ} → b < 2 ^ 8 → n < 2 ^ 32 → (b - 32) * n < 2 ^ 64
+fields-fit {b} {n} h k = omega (arith, mul-le-mul {n₁ = b - 32} {m₁ = n} {n₂ = 255} {m₂ = 2 ^ 32} (omega arith) (omega arith))
+
+pub addressed-of : (row column : ℕ) (s o : Pen) (w h x y : ℕ) → w ≡ magnitude (s .text .field .x) → h ≡ magnitude (s .text .field .y) → x ≡ (column - 32) * w → y ≡ (row - 32) * h → o ≡ setCursor (positive x) (positive y) s → o ≡ addressed row column s
+unfolding addressed
+addressed-of row column s o w h x y e f g k l =
+    let u = g ∙ ap (λ (z : ℕ). (column - 32) * z) e in
+    let v = k ∙ ap (λ (z : ℕ). (row - 32) * z) f in
+    l ∙ (λ i. setCursor (positive (u i)) (positive (v i)) s)
+
+pub positioned-of : (row column : ℕ) (s o : Pen) (x y : ℕ) → x ≡ column - 64 → y ≡ row - 64 → o ≡ setCursor (positive (x * freshWidth)) (record { ahead = displayTop; back = (y + 1) * freshHeight }) s → o ≡ positioned row column s
+unfolding positioned
+positioned-of row column s o x y e f l =
+    l ∙ (λ i. setCursor (positive (e i * freshWidth)) (record { ahead = displayTop; back = (f i + 1) * freshHeight }) s)
+
+-- Characters of the other sets all advance
+abbrev unaccented-sets : List ℕ
+unaccented-sets = 0 ∷ 2 ∷ 3 ∷ []
+
+pub unaccented : (x : Repertoire) (b : ℕ) → OneOf unaccented-sets (tagOf the-repertoire x) → true ≡ spaces x b
+unfolding spaces
+unaccented Primary b h = refl
+unaccented Supplementary b h = absurd (miss unaccented-sets 1 tt h)
+unaccented Mosaic b h = refl
+unaccented Drcs b h = refl
