@@ -13,6 +13,7 @@ pub mod WorkedCalls
 pub mod DrawingRanges
 pub mod RecordCount
 pub mod CodingRanges
+pub mod Multiples
 pub mod Steps
 pub mod Turns
 pub mod Readings

@@ -49,13 +49,13 @@ kept r v = min (min (max v (r .before)) (screenSide - r .after)) (screenSide - 2
 kept-max : (r : Reach) (v : ℕ) → kept r v ≤ max v (r .before)
 kept-max r v = omega (arith, min-left (min (max v (r .before)) (screenSide - r .after)) (screenSide - 256), min-left (max v (r .before)) (screenSide - r .after))
 
-kept-edge : (r : Reach) (v : ℕ) → kept r v ≤ screenSide - r .after
+pub kept-edge : (r : Reach) (v : ℕ) → kept r v ≤ screenSide - r .after
 kept-edge r v = omega (arith, min-left (min (max v (r .before)) (screenSide - r .after)) (screenSide - 256), min-right (max v (r .before)) (screenSide - r .after))
 
-kept-last : (r : Reach) (v : ℕ) → kept r v ≤ screenSide - 256
+pub kept-last : (r : Reach) (v : ℕ) → kept r v ≤ screenSide - 256
 kept-last r v = min-right (min (max v (r .before)) (screenSide - r .after)) (screenSide - 256)
 
-le-kept : (r : Reach) (v x : ℕ) → x ≤ max v (r .before) → x ≤ screenSide - r .after → x ≤ screenSide - 256 → x ≤ kept r v
+pub le-kept : (r : Reach) (v x : ℕ) → x ≤ max v (r .before) → x ≤ screenSide - r .after → x ≤ screenSide - 256 → x ≤ kept r v
 le-kept r v x p q o = le-min x (min (max v (r .before)) (screenSide - r .after)) (screenSide - 256) (le-min x (max v (r .before)) (screenSide - r .after) p q) o
 
 -- A held place is on the screen, and a multiple of 256
@@ -365,14 +365,14 @@ box-fits Degrees90 f p q = (omega (arith, magnitude-le (f .y) q), omega (arith, 
 box-fits Degrees180 f p q = (omega (arith, magnitude-le (f .x) p), omega (arith, magnitude-le (f .y) q))
 box-fits Degrees270 f p q = (omega (arith, magnitude-le (f .y) q), omega (arith, magnitude-le (f .x) p))
 
-offset-before : (o : Style) (r : Reach) → offset o r .before % 256 ≡ 0
+pub offset-before : (o : Style) (r : Reach) → offset o r .before % 256 ≡ 0
 unfolding offset half trunc256
 offset-before Underscore r = refl
 offset-before Block r = refl
 offset-before CrossHair r = omega arith
 offset-before Custom r = omega arith
 
-offset-after : (o : Style) (r : Reach) → offset o r .after % 256 ≡ 0
+pub offset-after : (o : Style) (r : Reach) → offset o r .after % 256 ≡ 0
 unfolding offset half trunc256
 offset-after Underscore r = refl
 offset-after Block r = refl

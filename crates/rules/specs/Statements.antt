@@ -1,6 +1,6 @@
 -- What is claimed of every page, cut, buffer and macro; proved in proofs/Cutting, Expanding and Demand3
-use Rattle.rules.specs.Prelude.{ℕ, _-_, _≡_, List, [], _++_, take}
-use Rattle.rules.specs.Types.{Full}
+use Rattle.rules.specs.Prelude.{ℕ, _-_, _%_, _≡_, List, [], _∷_, _++_, take}
+use Rattle.rules.specs.Types.{Full, Point, Record}
 use Rattle.rules.specs.Step.{State}
 use Rattle.rules.specs.Reading.{Steps, readTo, undivided, Waits}
 use Rattle.rules.specs.Calls.{Terms, freshState, end, Lent, feeds, lentBytes}
@@ -28,3 +28,18 @@ pub record DrawsAlike (terms : Terms) (c : Lent) (cs : List Lent) (out : List �
       ++ take (end (feeds (freshState terms) [] c cs .state) out .written) (end (feeds (freshState terms) [] c cs .state) out .output)
       ≡ allRecords terms (expansion terms (lentBytes c cs))
   pub state : SameState (end (feeds (freshState terms) [] c cs .state) out .state) (endPage terms (expansion terms (lentBytes c cs)) .state)
+
+-- Multiples of 256
+
+-- Both coordinates of a point, or both sizes of the pel, are multiples of 256
+abbrev pub OnGrid : Point → Type 0
+OnGrid p = (p .x % 256 ≡ 0) × (p .y % 256 ≡ 0)
+
+-- So are the pel of a record, and its points in every kind but 8, where they are G, R, B
+pub record RecordOnGrid (r : Record) : Type 0 where
+  pub pel : OnGrid (r .pel)
+  pub points : (r .kind ≡ 8 → ⊥) → OnGrid (r .p0) × OnGrid (r .p1) × OnGrid (r .p2)
+
+abbrev pub AllOnGrid : List Record → Type 0
+AllOnGrid [] = Unit {0}
+AllOnGrid (r ∷ rs) = RecordOnGrid r × AllOnGrid rs
