@@ -14,6 +14,7 @@ pub mod DrawingRanges
 pub mod RecordCount
 pub mod CodingRanges
 pub mod Multiples
+pub mod Cursors
 pub mod Steps
 pub mod Turns
 pub mod Readings

@@ -1,6 +1,8 @@
 -- What is claimed of every page, cut, buffer and macro; proved in proofs/Cutting, Expanding and Demand3
-use Rattle.rules.specs.Prelude.{ℕ, _-_, _%_, _≡_, List, [], _∷_, _++_, take}
-use Rattle.rules.specs.Types.{Full, Point, Record}
+use Rattle.rules.specs.Prelude.{ℕ, _-_, _%_, _≡_, Bool, true, List, [], _∷_, _++_, take, eqb}
+use Rattle.rules.specs.Types.{Full, Point, Text, Record, Reach, Drawing}
+use Rattle.rules.specs.Numbers.{screenSide}
+use Rattle.rules.specs.Text.{positive, fieldFits, fieldBox}
 use Rattle.rules.specs.Step.{State}
 use Rattle.rules.specs.Reading.{Steps, readTo, undivided, Waits}
 use Rattle.rules.specs.Calls.{Terms, freshState, end, Lent, feeds, lentBytes}
@@ -43,3 +45,18 @@ pub record RecordOnGrid (r : Record) : Type 0 where
 abbrev pub AllOnGrid : List Record → Type 0
 AllOnGrid [] = Unit {0}
 AllOnGrid (r ∷ rs) = RecordOnGrid r × AllOnGrid rs
+
+-- The cursor
+
+-- TEXT 2/2 is open: its bytes change settings and field as they come, and its closing holds the cursor
+abbrev pub textOpen : Drawing → Bool
+textOpen d = eqb (d .command .opcode) 34
+
+-- On one axis the field fits where the cursor stands; but a field that reaches back over the whole screen would fit at U alone, so its
+-- cursor stands at the last place, U - 256
+pub data FitsAt (r : Reach) (c : ℕ) : Type 0 where
+  fitsThere : fieldFits r (positive c) ≡ true → FitsAt r c
+  lastPlace : r .before ≡ screenSide → c ≡ screenSide - 256 → FitsAt r c
+
+abbrev pub FieldFits : Text → Type 0
+FieldFits t = FitsAt (fieldBox t .x) (t .cursor .x) × FitsAt (fieldBox t .y) (t .cursor .y)
