@@ -19,6 +19,7 @@ pub mod Steps
 pub mod Turns
 pub mod Readings
 pub mod Cutting
+pub mod Places
 pub mod Pending
 pub mod Simulation
 pub mod Expanding

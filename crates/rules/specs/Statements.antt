@@ -1,10 +1,13 @@
--- What is claimed of every page, cut, buffer and macro; proved in proofs/Cutting, Expanding and Demand3
-use Rattle.rules.specs.Prelude.{ℕ, _-_, _%_, _≡_, Bool, true, List, [], _∷_, _++_, take, eqb}
-use Rattle.rules.specs.Types.{Full, Point, Text, Record, Reach, Drawing}
+-- What is claimed of every page, cut, buffer and macro, proved in proofs/Cutting, Expanding and Demand3; and of the coordinates of every
+-- record and of the cursor, proved in proofs/Places
+use Rattle.rules.specs.Prelude.{ℕ, _-_, _%_, _<_, _≡_, Bool, true, false, _||_, List, [], _∷_, _++_, take, eqb}
+use Rattle.rules.specs.Types.{Full, Point, Text, Record, Reach, Drawing, Aps, Nsr}
+use Rattle.rules.specs.Types.{Waiting, Nothing, Shifted, Escape, Designator, Longer, Name, Body, BodyEscape, Row·waiting as Row, Column}
 use Rattle.rules.specs.Numbers.{screenSide}
+use Rattle.rules.specs.Record.{bytesOfAll}
 use Rattle.rules.specs.Text.{positive, fieldFits, fieldBox}
 use Rattle.rules.specs.Step.{State}
-use Rattle.rules.specs.Reading.{Steps, readTo, undivided, Waits}
+use Rattle.rules.specs.Reading.{Limit, Steps, readTo, undivided, Waits}
 use Rattle.rules.specs.Calls.{Terms, freshState, end, Lent, feeds, lentBytes}
 use Rattle.rules.specs.Expansion.{expansion, endPage, Accepted, allRecords, SameState, SamePage}
 
@@ -46,11 +49,40 @@ abbrev pub AllOnGrid : List Record → Type 0
 AllOnGrid [] = Unit {0}
 AllOnGrid (r ∷ rs) = RecordOnGrid r × AllOnGrid rs
 
+-- Bytes that are those of such records, end to end
+pub record WrittenOnGrid (bytes : List ℕ) : Type 0 where
+  pub records : List Record
+  pub laid : bytes ≡ bytesOfAll records
+  pub all : AllOnGrid records
+
+-- Records: from a fresh session, all that the undivided reading of a page and its end call write, and all that a list of feeds and an
+-- end call write, is such bytes, whatever any of them answers
+pub record DrawsOnGrid (terms : Terms) : Type 0 where
+  pub pages : (page : List ℕ) → WrittenOnGrid (allRecords terms page)
+  pub calls : (c : Lent) (cs : List Lent) (out : List ℕ)
+      → WrittenOnGrid (feeds (freshState terms) [] c cs .records
+      ++ take (end (feeds (freshState terms) [] c cs .state) out .written) (end (feeds (freshState terms) [] c cs .state) out .output))
+
 -- The cursor
 
 -- TEXT 2/2 is open: its bytes change settings and field as they come, and its closing holds the cursor
 abbrev pub textOpen : Drawing → Bool
 textOpen d = eqb (d .command .opcode) 34
+
+-- The row or column byte of NSR is due: settings and field are fresh, the cursor is not yet set
+abbrev pub nsrDue : Waiting → Bool
+nsrDue Nothing = false
+nsrDue (Shifted s) = false
+nsrDue Escape = false
+nsrDue (Designator e) = false
+nsrDue Longer = false
+nsrDue Name = false
+nsrDue (Body d) = false
+nsrDue (BodyEscape d) = false
+nsrDue (Row Aps) = false
+nsrDue (Row Nsr) = true
+nsrDue (Column Aps r) = false
+nsrDue (Column Nsr r) = true
 
 -- On one axis the field fits where the cursor stands; but a field that reaches back over the whole screen would fit at U alone, so its
 -- cursor stands at the last place, U - 256
@@ -60,3 +92,24 @@ pub data FitsAt (r : Reach) (c : ℕ) : Type 0 where
 
 abbrev pub FieldFits : Text → Type 0
 FieldFits t = FitsAt (fieldBox t .x) (t .cursor .x) × FitsAt (fieldBox t .y) (t .cursor .y)
+
+-- The cursor is a multiple of 256 and on the screen; unless something is still to set it, its field fits
+pub record CursorHeld (unset : Bool) (t : Text) : Type 0 where
+  pub multiple : OnGrid (t .cursor)
+  pub onScreen : (t .cursor .x < screenSide) × (t .cursor .y < screenSide)
+  pub fitting : unset ≡ false → FieldFits t
+
+abbrev pub cursorUnset : State → Bool
+cursorUnset w = nsrDue (w .session .coding .waiting) || textOpen (w .session .drawing)
+
+abbrev pub CursorHeldIn : State → Type 0
+CursorHeldIn w = CursorHeld (cursorUnset w) (w .session .drawing .pen .text)
+
+-- Cursors: so it stands, from a fresh session, after every step of every page and after its end call, and after a list of feeds and an
+-- end call, whatever any of them answers. After an accepted page its field fits
+pub record HoldsCursor (terms : Terms) : Type 0 where
+  pub steps : (l : Limit) (page : List ℕ) → CursorHeldIn (readTo l (freshState terms) page .state)
+  pub ended : (page : List ℕ) → CursorHeldIn (endPage terms page .state)
+  pub accepted : (page : List ℕ) → Accepted terms page → FieldFits (endPage terms page .state .session .drawing .pen .text)
+  pub fed : (c : Lent) (cs : List Lent) → CursorHeldIn (feeds (freshState terms) [] c cs .state)
+  pub closed : (c : Lent) (cs : List Lent) (out : List ℕ) → CursorHeldIn (end (feeds (freshState terms) [] c cs .state) out .state)
