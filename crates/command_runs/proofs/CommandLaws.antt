@@ -27,9 +27,9 @@ use Rattle.rules.proofs.Bools.{true-false, false-true, and-left, and-right, pic
 use Rattle.figures.specs.Carried.{Carried, carry, drawingOf}
 use Rattle.figures.specs.Tracing.{penAt, movedIf}
 use Rattle.figures.proofs.Carrying.{carry-none}
-use Rattle.drawing_runs.specs.declared.Ran.{Ran}
+use Rattle.drawing_runs.specs.declared.Passed.{Passed}
 use Rattle.drawing_runs.specs.Run.{ActsAs, Run, none, more, standing}
-use Rattle.drawing_runs.specs.Strokes.{rested, penAfter}
+use Rattle.drawing_runs.specs.Strokes.{rested, penAfter, PassesTo}
 use Rattle.command_runs.specs.Asked.{asked}
 use Rattle.drawing_runs.proofs.ActsLaws.{data-acts, control-acts, opcode-acts}
 use Rattle.drawing_runs.proofs.StrokeLaws.{after-moved}
@@ -168,13 +168,13 @@ reaches-dropped bytes from x p₀ i w p c l m at out r some room least most own 
     (subst (λ (y : Pen). Run Pdi bytes from x (n + 1) (standing y c l m at out)) same stepped)
 
 -- What the answer tells
-pub reaches-end : (bytes : List ℕ) (from to : ℕ) (p₀ : Pen) (c₀ : Command) (at₀ : ℕ) (out₀ : List ℕ) (i : ℕ) (w : Bool) (p : Point) (c : Command) (l : Look) (at : ℕ) (out : List ℕ) (r : Ran)
-    → from ≤ i → i ≤ to → r ≡ record { count = i - from; at = at; pen = penAfter (i - from) w p₀ p; command = c }
-    → ((m : List ℕ) → Reaches bytes from (standing p₀ c₀ l m at₀ out₀) p₀ i w p c l m at out)
-    → ((m : List ℕ) → Run Pdi bytes from (standing p₀ c₀ l m at₀ out₀) (r .count) (standing (r .pen) (r .command) l m (r .at) out)) × (from + r .count ≤ to)
+pub reaches-end : (bytes : List ℕ) (from to : ℕ) (p₀ : Point) (c₀ : Command) (at₀ : ℕ) (out₀ : List ℕ) (i : ℕ) (w : Bool) (p : Point) (c : Command) (l : Look) (at : ℕ) (out : List ℕ) (r : Passed)
+    → from ≤ i → i ≤ to → r ≡ record { count = i - from; at = at; moved = w; point = p; command = c }
+    → ((o : Operand) → o .count ≡ 0 → length (o .bytes) ≡ 8 → (t : Text) (m : List ℕ) → Reaches bytes from (standing (penAt p₀ t o) c₀ l m at₀ out₀) (penAt p₀ t o) i w p c l m at out)
+    → ((o : Operand) → o .count ≡ 0 → length (o .bytes) ≡ 8 → PassesTo bytes from p₀ o c₀ l at₀ out₀ r out) × (from + r .count ≤ to)
 reaches-end bytes from to p₀ c₀ at₀ out₀ i w p c l at out r h k e runs = (
-  (λ m. subst (λ (x : Ran). Run Pdi bytes from (standing p₀ c₀ l m at₀ out₀) (x .count) (standing (x .pen) (x .command) l m (x .at) out)) (sym e) (runs m)),
-  subst (λ (x : Ran). from + x .count ≤ to) (sym e) (omega arith),
+  (λ o z eight. subst (λ (x : Passed). PassesTo bytes from p₀ o c₀ l at₀ out₀ x out) (sym e) (runs o z eight)),
+  subst (λ (x : Passed). from + x .count ≤ to) (sym e) (omega arith),
 )
 
 -- The row of a byte in the table

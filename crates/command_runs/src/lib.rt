@@ -4,12 +4,10 @@ pub mod points;
 
 use crate::opening::open_next;
 use crate::points::point_due;
-use drawing::data::resting;
 use drawing::data::role_due;
 use drawing::data::with_due;
-use drawing_runs::Ran;
+use drawing_runs::Passed;
 use drawing_runs::strokes::is_stroke;
-use figures::answers::moved_if;
 use figures::finishing::finishes_apart;
 use figures::tracing::either;
 use figures::tracing::put_figure;
@@ -21,7 +19,6 @@ use operands::whole::three_bytes;
 use records::head_of;
 use rules::Command;
 use rules::Look;
-use rules::Pen;
 use rules::Point;
 use rules::ROOM_FOR_STEP;
 use rules::Role;
@@ -33,12 +30,13 @@ ghost use mathlib.Core.Path.{_≡_};
 ghost use mathlib.Core.Bool.{true, false};
 ghost use Prim.Native.Nat.{ℕ, _+_, _≤_};
 ghost use lib.ListN.{length};
+ghost use Rattle.rules.specs.declared.Operand.{Operand};
 ghost use Rattle.rules.specs.declared.Role.{Role};
 ghost use Rattle.rules.specs.declared.Set.{Set};
 ghost use Rattle.rules.specs.Ranges.{domainFits, commandFits};
 ghost use Rattle.figures.specs.Tracing.{finishesApart};
-ghost use Rattle.drawing_runs.specs.Run.{ActsAs, RunsTo};
-ghost use Rattle.drawing_runs.specs.Strokes.{penAfter};
+ghost use Rattle.drawing_runs.specs.Run.{ActsAs};
+ghost use Rattle.drawing_runs.specs.Strokes.{PassesTo};
 ghost use Rattle.command_runs.specs.Asked.{asked};
 
 // Whether four points of three bytes come at a place.
@@ -90,31 +88,22 @@ fn drops(role: Role, byte: u8, count: usize) -> bool
     false
 }
 
-// The pen after so many bytes, with its point moved or not.
-fn pen_after(count: usize, moved: bool, pen: Pen, point: Point) -> Pen
-    ensures { λ r. ⌜ r ≡ penAfter count moved pen point ⌝ }
+// What so many bytes leave.
+fn after(count: usize, at: usize, moved: bool, point: Point, command: Command) -> Passed
+    ensures { λ r. ⌜ r ≡ record { count = count; at = at; moved = moved; point = point; command = command } ⌝ }
 {
-    if count == 0 {
-        return pen;
-    }
-    resting(moved_if(moved, pen, point))
-}
-
-// What so many bytes leave of the pen lent, with its point moved or not.
-fn after(count: usize, at: usize, moved: bool, pen: Pen, point: Point, command: Command) -> Ran
-    ensures { λ r. ⌜ r ≡ record { count = count; at = at; pen = penAfter count moved pen point; command = command } ⌝ }
-{
-    Ran {
+    Passed {
         count,
         at,
-        pen: pen_after(count, moved, pen, point),
+        moved,
+        point,
         command,
     }
 }
 
-// As many bytes as are whole points, opcodes, recorded controls and dropped data; the ordinary step does the rest.
+// As many bytes as are whole points, opcodes, recorded controls and dropped data, with no operand begun; the ordinary step does the rest.
 pub fn run_commands(
-    pen: Pen,
+    point: Point,
     command: Command,
     look: Look,
     bytes: &[u8],
@@ -122,10 +111,11 @@ pub fn run_commands(
     to: usize,
     out: &mut [u8],
     at: usize,
-) -> Ran
-    requires { ⌜ (pen .operand .count ≡ 0) × (domainFits (look .domain) ≡ true) × (commandFits command ≡ true) × (from ≤ to)
+) -> Passed
+    requires { ⌜ (domainFits (look .domain) ≡ true) × (commandFits command ≡ true) × (from ≤ to)
         × (to ≤ length (now bytes)) × (at ≤ length (now out)) ⌝ }
-    ensures ran { λ r. ⌜ RunsTo Set.Pdi (now (bytes .entry)) from pen command look at (now (out .entry)) r (now (out .exit)) ⌝ }
+    ensures ran { λ r. ⌜ ((o : Operand) → o .count ≡ 0 → length (o .bytes) ≡ 8
+        → PassesTo (now (bytes .entry)) from point o command look at (now (out .entry)) r (now (out .exit))) ⌝ }
     ensures most { λ r. ⌜ from + r .count ≤ to ⌝ }
 {
     let ink = head_of(look, 0, 0, 0, 0);
@@ -138,16 +128,16 @@ pub fn run_commands(
     let mut place = from;
     let mut at = at;
     let mut moved = false;
-    let mut point = pen.point;
+    let mut point = point;
     let mut command = command;
     while place < to {
         if out.len() - at < ROOM_FOR_STEP {
-            return after(place - from, at, moved, pen, point, command);
+            return after(place - from, at, moved, point, command);
         }
         let byte = bytes[place];
         if byte < 64 {
             if !opens(role, byte) {
-                return after(place - from, at, moved, pen, point, command);
+                return after(place - from, at, moved, point, command);
             }
             let next = rows[row_place(byte)];
             let opened = open_next(byte, next, row, point, command, ink, pel, out, at);
@@ -159,7 +149,7 @@ pub fn run_commands(
             role = role_due(row, command);
             place += 1;
             if leaves_strokes(byte, bytes, place, to) {
-                return after(place - from, at, moved, pen, point, command);
+                return after(place - from, at, moved, point, command);
             }
             continue;
         }
@@ -167,7 +157,7 @@ pub fn run_commands(
         match whole {
             Whole::Cut => {
                 if !drops(role, byte, place - from) {
-                    return after(place - from, at, moved, pen, point, command);
+                    return after(place - from, at, moved, point, command);
                 }
                 place += 1;
                 continue;
@@ -185,5 +175,5 @@ pub fn run_commands(
             }
         }
     }
-    after(place - from, at, moved, pen, point, command)
+    after(place - from, at, moved, point, command)
 }

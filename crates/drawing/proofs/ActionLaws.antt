@@ -1,53 +1,19 @@
 -- Records of the drawing point and the opening of a command, carried out.
-use Rattle.drawing.proofs.Prelude.{ℕ, _+_, _≡_, sym, ap, _∙_, true, false, List, [], _∷_, _++_, set, eq-eqb, ne-eqb}
+use Rattle.drawing.proofs.Prelude.{ℕ, _+_, _≡_, false, List, _++_, set, eq-eqb, ne-eqb}
 use Rattle.rules.specs.declared.Command.{Command}
 use Rattle.rules.specs.declared.Row.{Row}
 use Rattle.rules.specs.declared.Look.{Look}
-use Rattle.rules.specs.declared.Pen.{Pen}
 use Rattle.rules.specs.declared.Point.{Point}
-use Rattle.rules.specs.declared.Record.{Record}
 use Rattle.rules.specs.declared.Drawing.{Drawing}
 use Rattle.rules.specs.Numbers.{origin}
 use Rattle.rules.specs.Record.{words, bytesOf, recordOf, mark}
-use Rattle.rules.specs.Drawing.{rowOf, withPen, withCommand, newCommand, Outcome, NotDrawn, Draw, andThen, close, marked, openCommand}
-use Rattle.rules.proofs.Bools.{true-false, false-true}
+use Rattle.rules.specs.Drawing.{rowOf, withCommand, newCommand, openCommand}
 use Rattle.records.specs.declared.Head.{Head}
 use Rattle.records.specs.Bytes.{overwrite, headBytes}
 use Rattle.records.proofs.Heads.{record-bytes, head-code, head-kind}
-use Rattle.figures.specs.Carried.{Carried, carry}
+use Rattle.figures.specs.Carried.{carry}
 use Rattle.figures.specs.Tracing.{Inks}
 use Rattle.figures.proofs.Carrying.{puts-none, puts-one, puts-carried}
-
--- The same record
-pub record-so : {q t : Record} (d : Drawing) (at : ℕ) (l : List ℕ) → q ≡ t → carry (Draw d (q ∷ [])) d at l ≡ carry (Draw d (t ∷ [])) d at l
-record-so d at l e = rw e
-
--- A byte with a record, after which f acts
-module _ (r : Drawing → Record) (f : Drawing → Drawing) (d : Drawing) (at : ℕ) (l : List ℕ) (x : Carried) where
-  refused-by : (o : Outcome) → x ≡ carry (andThen o (λ e. Draw e (r e ∷ []))) d at l → x .refused ≡ true
-      → x ≡ carry (andThen o (λ e. Draw (f e) (r e ∷ []))) d at l
-  unfolding andThen carry
-  refused-by (NotDrawn q) e h = e
-  refused-by (Draw y rs) e h = true-false (sym h ∙ ap (λ (z : Carried). z .refused) e)
-
-  pub marked-refused : x ≡ carry (marked r (λ e. e) d) d at l → x .refused ≡ true → x ≡ carry (marked r f d) d at l
-  marked-refused e h = refused-by (close d) e h
-
-  acts-by : (o : Outcome) → x ≡ carry (andThen o (λ e. Draw e (r e ∷ []))) d at l → x .refused ≡ false
-      → record { refused = false; drawing = f (x .drawing); at = x .at; output = x .output } ≡ carry (andThen o (λ e. Draw (f e) (r e ∷ []))) d at l
-  unfolding andThen carry
-  acts-by (NotDrawn q) e h = false-true (sym h ∙ ap (λ (z : Carried). z .refused) e)
-  acts-by (Draw y rs) e h = ap (λ (z : Carried). record { refused = false; drawing = f (z .drawing); at = z .at; output = z .output }) e
-
-  pub marked-acts : x ≡ carry (marked r (λ e. e) d) d at l → x .refused ≡ false
-      → record { refused = false; drawing = f (x .drawing); at = x .at; output = x .output } ≡ carry (marked r f d) d at l
-  marked-acts e h = acts-by (close d) e h
-
--- The record of a character, and the pen after it
-pub typed-so : {q t : Record} {y : Pen} (d : Drawing) (p : Pen) (at : ℕ) (l : List ℕ) → q ≡ t → y ≡ p
-    → carry (Draw (withPen y d) (q ∷ [])) (withPen y d) at l ≡ carry (Draw (withPen p d) (t ∷ [])) d at l
-unfolding carry
-typed-so d p at l e f = rw (e, f)
 
 -- The bytes of a record of the drawing point, its head made from the ink
 pub mark-bytes : (g h ink : Head) (l : Look) (kind code : ℕ) (p pel : Point)

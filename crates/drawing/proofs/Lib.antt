@@ -4,3 +4,4 @@ pub mod RangeLaws
 pub mod OperandLaws
 pub mod ClosingLaws
 pub mod ActionLaws
+pub mod AfterLaws

@@ -6,6 +6,7 @@ use figures::Drawn;
 use figures::answers::moved_if;
 use figures::answers::no_record;
 use figures::finishing;
+use figures::finishing::finishes_apart;
 use figures::tracing::put_figure;
 use records::head_of;
 use rules::Colour;
@@ -20,33 +21,15 @@ use rules::Role;
 use rules::Row;
 use text::settings::close_text;
 ghost use mathlib.Core.Path.{_≡_};
-ghost use mathlib.Core.Bool.{false};
+ghost use mathlib.Core.Bool.{Bool, true};
+ghost use mathlib.Core.List.{[]};
 ghost use Prim.Native.Nat.{_+_, _≤_};
 ghost use lib.ListN.{length};
-ghost use Rattle.rules.specs.Numbers.{recordSize};
-ghost use Rattle.rules.specs.Drawing.{rowOf, withMode, complete, finish, newCommand, close};
-ghost use Rattle.figures.specs.Carried.{carryOut, drawingOf, carriedOf, DrawsBy};
+ghost use Rattle.rules.specs.declared.Drawing.{Drawing};
+ghost use Rattle.rules.specs.Text.{closeText};
+ghost use Rattle.rules.specs.Drawing.{rowOf, withMode, withPen, Draw, finish, newCommand, close};
+ghost use Rattle.figures.specs.Carried.{carryOut, drawingOf, carriedOf};
 ghost use Rattle.figures.specs.Tracing.{finishesApart};
-
-// Applies an operand that is begun: the bytes that have not come are zero bits.
-fn complete(
-    row: Row,
-    pen: Pen,
-    command: Command,
-    look: Look,
-    map: &mut [u8; 48],
-    out: &mut [u8],
-    at: usize,
-) -> Drawn
-    requires { ⌜ (pen .operand .count ≤ 8) × (look .colour .foreground ≤ 15) × (at + recordSize ≤ length (now out)) ⌝ }
-    ensures { λ r. ⌜ carriedOf r (now (map .exit)) (now (out .exit))
-        ≡ carryOut (complete row) (drawingOf pen command look (now (map .entry))) at (now (out .entry)) ⌝ }
-{
-    if pen.operand.count == 0 {
-        return no_record(pen, command, look, at);
-    }
-    apply_begun(row, pen, command, look, map, out, at)
-}
 
 // Colour mode 0.
 fn direct(look: Look) -> Look
@@ -65,52 +48,16 @@ fn direct(look: Look) -> Look
     Look { domain, colour }
 }
 
-// Finishes by a figure, or by none.
-fn finish_figure(
-    role: Role,
-    row: Row,
-    pen: Pen,
-    command: Command,
-    look: Look,
-    out: &mut [u8],
-    at: usize,
-) -> Drawn
-    requires { ⌜ (finishesApart role ≡ false) × (at + recordSize ≤ length (now out)) ⌝ }
-    ensures { λ r. ⌜ DrawsBy (finish role (row .filled)) pen command look at (now (out .entry)) r (now (out .exit)) ⌝ }
-{
-    let done = finishing::finish(role, row, pen.point, command);
-    let ink = head_of(look, 0, 0, 0, 0);
-    let at = put_figure(done.figure, ink, look.domain.pel, out, at);
-    let pen = moved_if(done.moved, pen, done.point);
-    Drawn {
-        too_many_vertices: false,
-        at,
-        pen,
-        command,
-        look,
-    }
-}
-
-// SELECT COLOUR with no operand sets mode 0, TEXT sets the cursor; other commands finish by a figure or none.
-fn finish(
-    role: Role,
-    row: Row,
-    pen: Pen,
-    command: Command,
-    look: Look,
-    out: &mut [u8],
-    at: usize,
-) -> Drawn
-    requires { ⌜ at + recordSize ≤ length (now out) ⌝ }
-    ensures { λ r. ⌜ DrawsBy (finish role (row .filled)) pen command look at (now (out .entry)) r (now (out .exit)) ⌝ }
+// The operand of TEXT that is due, by its role.
+fn text_due(role: Role) -> Due
+    ensures { λ r. ⌜ ((filled : Bool) (d : Drawing) → finishesApart role ≡ true → (role ≡ Role.Foreground → ⊥)
+        → finish role filled d ≡ Draw (withPen (closeText r (d .pen)) d) []) ⌝ }
 {
     match role {
-        Role::TextFirst => no_record(close_text(Due::First, pen), command, look, at),
-        Role::TextSecond => no_record(close_text(Due::Second, pen), command, look, at),
-        Role::TextField => no_record(close_text(Due::Third, pen), command, look, at),
-        Role::TextMore => no_record(close_text(Due::Past, pen), command, look, at),
-        Role::Foreground => no_record(pen, command, direct(look), at),
-        _ => finish_figure(role, row, pen, command, look, out, at),
+        Role::TextFirst => Due::First,
+        Role::TextSecond => Due::Second,
+        Role::TextField => Due::Third,
+        _ => Due::Past,
     }
 }
 
@@ -128,7 +75,9 @@ pub fn new_command(opcode: u8, point: Point) -> Command
     }
 }
 
-// Closes the command that the row is of. Only its begun operand can be refused, before anything is written.
+// Closes the command that the row is of. An operand that is begun is applied first, the bytes that have not come being zero bits:
+// only it can be refused, before anything is written. Then SELECT COLOUR with no operand sets mode 0, TEXT sets the cursor, and
+// other commands finish by a figure or by none.
 pub(crate) fn close(
     row: Row,
     pen: Pen,
@@ -143,16 +92,35 @@ pub(crate) fn close(
     ensures { λ r. ⌜ carriedOf r (now (map .exit)) (now (out .exit))
         ≡ carryOut close (drawingOf pen command look (now (map .entry))) at (now (out .entry)) ⌝ }
 {
-    let done = complete(row, pen, command, look, map, out, at);
-    if done.too_many_vertices {
-        return done;
+    let mut pen = pen;
+    let mut command = command;
+    let mut look = look;
+    let mut at = at;
+    if pen.operand.count != 0 {
+        let done = apply_begun(row, pen, command, look, map, out, at);
+        if done.too_many_vertices {
+            return done;
+        }
+        pen = done.pen;
+        command = done.command;
+        look = done.look;
+        at = done.at;
     }
-    let role = role_due(row, done.command);
-    let done = finish(role, row, done.pen, done.command, done.look, out, done.at);
-    no_record(
-        resting(done.pen),
-        new_command(0, ORIGIN),
-        done.look,
-        done.at,
-    )
+    let role = role_due(row, command);
+    if finishes_apart(role) {
+        match role {
+            Role::Foreground => {
+                look = direct(look);
+            }
+            _ => {
+                pen = close_text(text_due(role), pen);
+            }
+        }
+    } else {
+        let done = finishing::finish(role, row, pen.point, command);
+        let ink = head_of(look, 0, 0, 0, 0);
+        at = put_figure(done.figure, ink, look.domain.pel, out, at);
+        pen = moved_if(done.moved, pen, done.point);
+    }
+    no_record(resting(pen), new_command(0, ORIGIN), look, at)
 }

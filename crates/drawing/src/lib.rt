@@ -8,21 +8,20 @@ use crate::data::data_byte;
 use crate::opening::open_at;
 use figures::Drawn;
 use figures::answers::no_record;
-use figures::answers::one_record;
 use records::character;
 use records::head_of;
 use records::mark;
+use records::put_record;
 use records::set_number;
 use rules::Action;
 use rules::Colour;
 use rules::Command;
 use rules::Domain;
-use rules::Effector;
 use rules::Look;
 use rules::Mode;
 use rules::ORIGIN;
 use rules::Pen;
-use rules::Repertoire;
+use rules::RECORD_SIZE;
 use tables::opcodes::row_of;
 use text::characters::typed;
 use text::cursor::with_text;
@@ -33,55 +32,11 @@ ghost use mathlib.Core.Path.{_≡_};
 ghost use mathlib.Core.Bool.{true};
 ghost use Prim.Native.Nat.{_+_, _≤_};
 ghost use lib.ListN.{length};
-ghost use Rattle.rules.specs.Numbers.{roomForStep};
-ghost use Rattle.rules.specs.Drawing.{andThen, close, openCommand, resetLook, act};
+ghost use Rattle.rules.specs.Numbers.{recordSize, roomForStep};
+ghost use Rattle.rules.specs.Drawing.{andThen, close, resetLook, act};
 ghost use Rattle.rules.specs.Ranges.{drawingFits};
-ghost use Rattle.figures.specs.Carried.{carryOut, drawingOf, carriedOf};
-
-// A control closes the open command, and has a record of the drawing point.
-fn close_and_mark(
-    byte: u8,
-    pen: Pen,
-    command: Command,
-    look: Look,
-    map: &mut [u8; 48],
-    out: &mut [u8],
-    at: usize,
-) -> Drawn
-    requires { ⌜ (pen .operand .count ≤ 8) × (look .colour .foreground ≤ 15) × (at + roomForStep ≤ length (now out)) ⌝ }
-    ensures { λ r. ⌜ carriedOf r (now (map .exit)) (now (out .exit))
-        ≡ carryOut (act (Action.Control byte)) (drawingOf pen command look (now (map .entry))) at (now (out .entry)) ⌝ }
-{
-    let row = row_of(command.opcode);
-    let done = close(row, pen, command, look, map, out, at);
-    if done.too_many_vertices {
-        return done;
-    }
-    let record = mark(done.look, 7, 0, byte, done.pen.point);
-    one_record(record, done.pen, done.command, done.look, out, done.at)
-}
-
-// A format effector moves the cursor after its record.
-fn close_and_format(
-    effector: Effector,
-    byte: u8,
-    pen: Pen,
-    command: Command,
-    look: Look,
-    map: &mut [u8; 48],
-    out: &mut [u8],
-    at: usize,
-) -> Drawn
-    requires { ⌜ (pen .operand .count ≤ 8) × (look .colour .foreground ≤ 15) × (at + roomForStep ≤ length (now out)) ⌝ }
-    ensures { λ r. ⌜ carriedOf r (now (map .exit)) (now (out .exit))
-        ≡ carryOut (act (Action.Format effector byte)) (drawingOf pen command look (now (map .entry))) at (now (out .entry)) ⌝ }
-{
-    let done = close_and_mark(byte, pen, command, look, map, out, at);
-    if done.too_many_vertices {
-        return done;
-    }
-    no_record(format(effector, done.pen), done.command, done.look, done.at)
-}
+ghost use Rattle.figures.specs.Carried.{carryOut, drawingOf, carriedOf, DrawsBy};
+ghost use Rattle.drawing.specs.After.{afterClosing};
 
 // NSR after its record: the fresh domain, mode 0 and white, and the fresh text; the addresses and the cursor stay.
 fn reset_look(look: Look) -> Look
@@ -106,36 +61,76 @@ fn reset_look(look: Look) -> Look
     }
 }
 
-fn close_and_reset(
-    byte: u8,
+// What an action does once the open command is closed: a control has a record of the drawing point and a character one of the
+// cursor and the field, a format effector and a character then move the cursor, NSR resets, and an opcode opens.
+fn after_closing(
+    action: Action,
     pen: Pen,
     command: Command,
     look: Look,
-    map: &mut [u8; 48],
     out: &mut [u8],
     at: usize,
 ) -> Drawn
-    requires { ⌜ (pen .operand .count ≤ 8) × (look .colour .foreground ≤ 15) × (at + roomForStep ≤ length (now out)) ⌝ }
-    ensures { λ r. ⌜ carriedOf r (now (map .exit)) (now (out .exit))
-        ≡ carryOut (act (Action.Reset byte)) (drawingOf pen command look (now (map .entry))) at (now (out .entry)) ⌝ }
+    requires { ⌜ at + recordSize ≤ length (now out) ⌝ }
+    ensures { λ r. ⌜ DrawsBy (afterClosing action) pen command look at (now (out .entry)) r (now (out .exit)) ⌝ }
 {
-    let done = close_and_mark(byte, pen, command, look, map, out, at);
-    if done.too_many_vertices {
-        return done;
+    let mut pen = pen;
+    let mut command = command;
+    let mut look = look;
+    let mut at = at;
+    match action {
+        Action::Control(byte) => {
+            put_record(out, at, mark(look, 7, 0, byte, pen.point));
+            at = at + RECORD_SIZE;
+        }
+        Action::Format(effector, byte) => {
+            put_record(out, at, mark(look, 7, 0, byte, pen.point));
+            at = at + RECORD_SIZE;
+            pen = format(effector, pen);
+        }
+        Action::Reset(byte) => {
+            put_record(out, at, mark(look, 7, 0, byte, pen.point));
+            at = at + RECORD_SIZE;
+            pen = with_text(reset_text(pen.text), pen);
+            look = reset_look(look);
+        }
+        Action::Character(repertoire, code) => {
+            put_record(
+                out,
+                at,
+                character(look, set_number(repertoire), code, pen.text),
+            );
+            at = at + RECORD_SIZE;
+            pen = typed(repertoire, code, pen);
+        }
+        Action::Opcode(opcode) => {
+            let ink = head_of(look, 0, 0, 0, 0);
+            let opened = open_at(
+                opcode,
+                row_of(opcode),
+                pen.point,
+                ink,
+                look.domain.pel,
+                out,
+                at,
+            );
+            command = opened.command;
+            at = opened.at;
+        }
+        _ => {}
     }
-    let text = reset_text(done.pen.text);
-    no_record(
-        with_text(text, done.pen),
-        done.command,
-        reset_look(done.look),
-        done.at,
-    )
+    Drawn {
+        too_many_vertices: false,
+        at,
+        pen,
+        command,
+        look,
+    }
 }
 
-// A character closes the open command, has a record of the cursor and the field, and moves the cursor.
-fn close_and_type(
-    repertoire: Repertoire,
-    code: u8,
+// Closes the open command, then does what the action asks of the state that closing leaves.
+fn close_and(
+    action: Action,
     pen: Pen,
     command: Command,
     look: Look,
@@ -145,31 +140,7 @@ fn close_and_type(
 ) -> Drawn
     requires { ⌜ (pen .operand .count ≤ 8) × (look .colour .foreground ≤ 15) × (at + roomForStep ≤ length (now out)) ⌝ }
     ensures { λ r. ⌜ carriedOf r (now (map .exit)) (now (out .exit))
-        ≡ carryOut (act (Action.Character repertoire code)) (drawingOf pen command look (now (map .entry))) at (now (out .entry)) ⌝ }
-{
-    let row = row_of(command.opcode);
-    let done = close(row, pen, command, look, map, out, at);
-    if done.too_many_vertices {
-        return done;
-    }
-    let record = character(done.look, set_number(repertoire), code, done.pen.text);
-    let pen = typed(repertoire, code, done.pen);
-    one_record(record, pen, done.command, done.look, out, done.at)
-}
-
-// Closes the open command, and opens another.
-fn close_and_open(
-    opcode: u8,
-    pen: Pen,
-    command: Command,
-    look: Look,
-    map: &mut [u8; 48],
-    out: &mut [u8],
-    at: usize,
-) -> Drawn
-    requires { ⌜ (pen .operand .count ≤ 8) × (look .colour .foreground ≤ 15) × (at + roomForStep ≤ length (now out)) ⌝ }
-    ensures { λ r. ⌜ carriedOf r (now (map .exit)) (now (out .exit))
-        ≡ carryOut (λ d. andThen (close d) (openCommand opcode)) (drawingOf pen command look (now (map .entry))) at
+        ≡ carryOut (λ d. andThen (close d) (afterClosing action)) (drawingOf pen command look (now (map .entry))) at
         (now (out .entry)) ⌝ }
 {
     let row = row_of(command.opcode);
@@ -177,17 +148,7 @@ fn close_and_open(
     if done.too_many_vertices {
         return done;
     }
-    let ink = head_of(done.look, 0, 0, 0, 0);
-    let opened = open_at(
-        opcode,
-        row_of(opcode),
-        done.pen.point,
-        ink,
-        done.look.domain.pel,
-        out,
-        done.at,
-    );
-    no_record(done.pen, opened.command, done.look, opened.at)
+    after_closing(action, done.pen, done.command, done.look, out, done.at)
 }
 
 // What an action draws, of a state in range; the output has room for three records.
@@ -206,26 +167,21 @@ pub fn act(
 {
     match action {
         Action::Idle => no_record(pen, command, look, at),
-        Action::Close => {
-            let row = row_of(command.opcode);
-            close(row, pen, command, look, map, out, at)
-        }
-        Action::Control(byte) => close_and_mark(byte, pen, command, look, map, out, at),
-        Action::Format(effector, byte) => {
-            close_and_format(effector, byte, pen, command, look, map, out, at)
-        }
-        Action::Reset(byte) => close_and_reset(byte, pen, command, look, map, out, at),
         Action::Position(positioning, row, column) => {
             let pen = placed(positioning, row, column, pen);
             no_record(pen, command, look, at)
         }
-        Action::Character(repertoire, code) => {
-            close_and_type(repertoire, code, pen, command, look, map, out, at)
-        }
-        Action::Opcode(opcode) => close_and_open(opcode, pen, command, look, map, out, at),
         Action::Data(byte) => {
             let row = row_of(command.opcode);
             data_byte(row, byte, pen, command, look, map, out, at)
         }
+        Action::Close => close_and(action, pen, command, look, map, out, at),
+        Action::Control(_byte) => close_and(action, pen, command, look, map, out, at),
+        Action::Format(_effector, _byte) => close_and(action, pen, command, look, map, out, at),
+        Action::Reset(_byte) => close_and(action, pen, command, look, map, out, at),
+        Action::Character(_repertoire, _code) => {
+            close_and(action, pen, command, look, map, out, at)
+        }
+        Action::Opcode(_opcode) => close_and(action, pen, command, look, map, out, at),
     }
 }

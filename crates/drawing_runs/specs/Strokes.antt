@@ -3,16 +3,19 @@ use Rattle.drawing_runs.specs.Prelude.{ℕ, zero, suc, _+_, _≤_, Bool,
 use Rattle.rules.specs.declared.Command.{Command}
 use Rattle.rules.specs.declared.Due.the-variants.{First}
 use Rattle.rules.specs.declared.Look.{Look}
+use Rattle.rules.specs.declared.Operand.{Operand}
 use Rattle.rules.specs.declared.Pattern.the-variants.{A}
 use Rattle.rules.specs.declared.Pen.{Pen}
 use Rattle.rules.specs.declared.Point.{Point}
 use Rattle.rules.specs.declared.Set.the-variants.{Pdi}
+use Rattle.rules.specs.declared.Text.{Text}
 use Rattle.rules.specs.Numbers.{roomForStep}
 use Rattle.rules.specs.Drawing.{row, rowOf, noOperand}
 use Rattle.rules.specs.Record.{recordOf}
 use Rattle.records.specs.declared.Head.{Head}
 use Rattle.records.specs.Bytes.{headOf, headBytes}
-use Rattle.figures.specs.Tracing.{movedIf}
+use Rattle.figures.specs.Tracing.{penAt, movedIf}
+use Rattle.drawing_runs.specs.declared.Passed.{Passed}
 use Rattle.drawing_runs.specs.Run.{standing, Run}
 
 -- A pen with no operand begun
@@ -23,6 +26,13 @@ rested p = record { point = p .point; text = p .text; operand = noOperand }
 abbrev pub penAfter : ℕ → Bool → Pen → Point → Pen
 penAfter zero w p q = p
 penAfter (suc n) w p q = rested (movedIf w q p)
+
+-- What a run of PDI bytes that looks at no text comes to, whatever text and map hold, with the output left so
+abbrev pub PassesTo : List ℕ → ℕ → Point → Operand → Command → Look → ℕ → List ℕ → Passed → List ℕ → Type 0
+PassesTo bytes from p o command look at out r left =
+    (t : Text) (m : List ℕ)
+    → Run Pdi bytes from (standing (penAt p t o) command look m at out) (r .count)
+    (standing (penAfter (r .count) (r .moved) (penAt p t o) (r .point)) (r .command) look m (r .at) left)
 
 -- The first operand is due of such a command, with figures of a kind that are not filled; none of it is begun
 pub record StrokeDue (kind : ℕ) (p : Pen) (c : Command) (l : Look) : Type 0 where

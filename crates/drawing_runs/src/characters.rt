@@ -1,97 +1,232 @@
-// Runs of characters.
+// Runs of characters and format effectors.
 use crate::Ran;
+use crate::lines::Common;
+use crate::lines::Hand;
+use crate::lines::Put;
+use crate::lines::common_of;
+use crate::lines::is_character;
+use crate::lines::put_rest;
 use crate::most_steps;
 use drawing::closing::new_command;
 use drawing::data::resting;
-use records::head_of;
+use drawing::opening::put_mark;
 use records::put_words;
-use records::set_number;
 use records::with_code;
+use rules::Class;
 use rules::Command;
+use rules::Control;
 use rules::Look;
 use rules::ORIGIN;
 use rules::Pen;
 use rules::RECORD_SIZE;
 use rules::Repertoire;
 use rules::Set;
-use text::characters::typed;
+use tables::controls::class_of;
+use text::characters::spaces;
+use text::cursor::aligned;
+use text::movers::advanced;
+use text::movers::format;
 ghost use mathlib.Core.Path.{_≡_};
-ghost use mathlib.Core.List.{List};
-ghost use Prim.Native.Nat.{ℕ, _+_, _*_, _<_, _≤_};
-ghost use lib.ListN.{length};
+ghost use Prim.Native.Nat.{_+_, _*_, _<_, _≤_};
+ghost use lib.ListN.{length, getD};
+ghost use Rattle.rules.specs.declared.Effector.{Effector};
 ghost use Rattle.rules.specs.Numbers.{roomForStep};
-ghost use Rattle.drawing_runs.specs.Run.{Run, standing, RunsTo};
-ghost use Rattle.drawing_runs.specs.Characters.{lastCharacter, typedState};
-
-// 7/15 of the primary and supplementary sets does nothing.
-fn last_character(set: Repertoire) -> u8
-    ensures { λ r. ⌜ r ≡ lastCharacter set ⌝ }
-{
-    match set {
-        Repertoire::Primary => 126,
-        Repertoire::Supplementary => 126,
-        Repertoire::Mosaic => 127,
-        Repertoire::Drcs => 127,
-    }
-}
+ghost use Rattle.drawing_runs.specs.Run.{RunsTo};
+ghost use Rattle.drawing_runs.specs.Characters.{IsCharacter, IsFormat, Room, penOf, Goes, Puts, TypedOn};
 
 // How many characters were put, and the pen after them; an operand that was begun before is still with it.
-struct Put {
+struct Page {
     count: usize,
     pen: Pen,
 }
 
-// Puts at most so many characters: their records, and the cursor moved by each.
+// What a character leaves of a text.
+fn typed_on(set: Repertoire, code: u8, hand: Hand) -> Hand
+    ensures { λ r. ⌜ TypedOn set code (hand .moved) (hand .text) (r .moved) (r .text) ⌝ }
+{
+    if spaces(set, code) {
+        let text = advanced(hand.text);
+        return Hand { moved: true, text };
+    }
+    hand
+}
+
+// Puts one character, wherever the cursor goes.
+fn put_one(
+    common: Common,
+    hand: Hand,
+    bytes: &[u8],
+    from: usize,
+    count: usize,
+    out: &mut [u8],
+    at: usize,
+) -> Put
+    requires { ⌜ (from + count < length (now bytes)) × (at + (40 * count + roomForStep) ≤ length (now out)) ⌝ }
+    ensures goes { λ r. ⌜ Goes common (now (bytes .entry)) from at count (hand .moved) (hand .text) (now (out .entry))
+        (r .count) (r .hand .moved) (r .hand .text) (now (out .exit)) ⌝ }
+    ensures most { λ r. ⌜ (count ≤ r .count) × (r .count ≤ count + 1)
+        × (IsCharacter common (getD (now (bytes .entry)) (from + count) 0) → r .count ≡ count + 1) ⌝ }
+{
+    let code = bytes[from + count];
+    if !is_character(common, code) {
+        return Put { count, hand };
+    }
+    let text = hand.text;
+    let place = at + RECORD_SIZE * count;
+    put_words(
+        out,
+        place,
+        with_code(common.head, code),
+        text.cursor,
+        text.field,
+        ORIGIN,
+        common.pel,
+    );
+    let set = common.set;
+    Put {
+        count: count + 1,
+        hand: typed_on(set, code, hand),
+    }
+}
+
+// Puts the characters up to the end of a line, and one more: at least one.
+fn put_some(
+    common: Common,
+    hand: Hand,
+    bytes: &[u8],
+    from: usize,
+    count: usize,
+    most: usize,
+    out: &mut [u8],
+    at: usize,
+) -> Put
+    requires { ⌜ (count < most) × (from + most ≤ length (now bytes)) × Room at most (now out)
+        × IsCharacter common (getD (now bytes) (from + count) 0) ⌝ }
+    ensures goes { λ r. ⌜ Goes common (now (bytes .entry)) from at count (hand .moved) (hand .text) (now (out .entry))
+        (r .count) (r .hand .moved) (r .hand .text) (now (out .exit)) ⌝ }
+    ensures most { λ r. ⌜ (count < r .count) × (r .count ≤ most) ⌝ }
+{
+    let rest = put_rest(common, hand, bytes, from, count, most, out, at);
+    if rest.count == most {
+        return rest;
+    }
+    put_one(common, rest.hand, bytes, from, rest.count, out, at)
+}
+
+// The pen with such a text.
+fn pen_of(hand: Hand, pen: Pen) -> Pen
+    ensures { λ r. ⌜ r ≡ penOf (hand .moved) (hand .text) pen ⌝ }
+{
+    if hand.moved {
+        return aligned(hand.text, pen);
+    }
+    pen
+}
+
+// Puts characters, a line at a time: their records, and the cursor moved by each.
 fn put_characters(
-    set: Repertoire,
+    common: Common,
     pen: Pen,
-    command: Command,
-    look: Look,
+    bytes: &[u8],
+    from: usize,
+    count: usize,
+    most: usize,
+    out: &mut [u8],
+    at: usize,
+) -> Page
+    requires { ⌜ (count ≤ most) × (from + most ≤ length (now bytes)) × Room at most (now out) ⌝ }
+    ensures goes { λ r. ⌜ Puts common (now (bytes .entry)) from at count pen (now (out .entry)) (r .count) (r .pen) (now (out .exit)) ⌝ }
+    ensures most { λ r. ⌜ (count ≤ r .count) × (r .count ≤ most) ⌝ }
+{
+    let text = pen.text;
+    let mut hand = Hand { moved: false, text };
+    let mut n = count;
+    while n < most {
+        let code = bytes[from + n];
+        if !is_character(common, code) {
+            break;
+        }
+        let put = put_some(common, hand, bytes, from, n, most, out, at);
+        n = put.count;
+        hand = put.hand;
+    }
+    Page {
+        count: n,
+        pen: pen_of(hand, pen),
+    }
+}
+
+// The control that a byte is; one from 2/0 on does nothing as such.
+fn control_of(code: u8) -> Control
+    ensures { λ r. ⌜ ((f : Effector) → r ≡ Control.Formats f → IsFormat f code) ⌝ }
+{
+    let class = class_of(code);
+    match class {
+        Class::Below(control) => control,
+        Class::Column2 => Control::Ignored,
+        Class::Above => Control::Ignored,
+    }
+}
+
+// Does what a format effector says, after its record; nothing where the byte is none.
+fn put_format(
+    common: Common,
+    pen: Pen,
+    bytes: &[u8],
+    from: usize,
+    count: usize,
+    out: &mut [u8],
+    at: usize,
+) -> Page
+    requires { ⌜ (from + count < length (now bytes)) × (at + (40 * count + roomForStep) ≤ length (now out)) ⌝ }
+    ensures puts { λ r. ⌜ Puts common (now (bytes .entry)) from at count pen (now (out .entry)) (r .count) (r .pen) (now (out .exit)) ⌝ }
+    ensures most { λ r. ⌜ (count ≤ r .count) × (r .count ≤ count + 1) ⌝ }
+{
+    let code = bytes[from + count];
+    let control = control_of(code);
+    if let Control::Formats(effector) = control {
+        let place = at + RECORD_SIZE * count;
+        put_mark(common.ink, 7, code, pen.point, common.pel, out, place);
+        return Page {
+            count: count + 1,
+            pen: format(effector, pen),
+        };
+    }
+    Page { count, pen }
+}
+
+// Puts characters and format effectors.
+fn put_text(
+    common: Common,
+    pen: Pen,
     bytes: &[u8],
     from: usize,
     most: usize,
     out: &mut [u8],
     at: usize,
-) -> Put
-    requires { ⌜ (command .opcode ≡ 0) × (from + most ≤ length (now bytes))
-        × ((n : ℕ) → n < most → at + (40 * n + roomForStep) ≤ length (now out)) ⌝ }
-    ensures run { λ r. ⌜ ((m : List ℕ)
-        → Run (Set.Characters set) (now (bytes .entry)) from (standing pen command look m at (now (out .entry))) (r .count)
-        (typedState (r .count) (r .pen) command look m at (now (out .exit)))) ⌝ }
+) -> Page
+    requires { ⌜ (from + most ≤ length (now bytes)) × Room at most (now out) ⌝ }
+    ensures puts { λ r. ⌜ Puts common (now (bytes .entry)) from at 0 pen (now (out .entry)) (r .count) (r .pen) (now (out .exit)) ⌝ }
     ensures most { λ r. ⌜ r .count ≤ most ⌝ }
-    ensures still { λ r. ⌜ (r .count ≡ 0 → r .pen ≡ pen) ⌝ }
 {
-    let last = last_character(set);
-    let head = head_of(look, 6, 0, set_number(set), 0);
-    let domain = look.domain;
-    let pel = domain.pel;
     let mut count: usize = 0;
     let mut pen = pen;
     while count < most {
-        let code = bytes[from + count];
-        if code < 32 {
-            return Put { count, pen };
+        let put = put_characters(common, pen, bytes, from, count, most, out, at);
+        if put.count == most {
+            return put;
         }
-        if last < code {
-            return Put { count, pen };
+        let formatted = put_format(common, put.pen, bytes, from, put.count, out, at);
+        if formatted.count == put.count {
+            return formatted;
         }
-        let text = pen.text;
-        put_words(
-            out,
-            at + RECORD_SIZE * count,
-            with_code(head, code),
-            text.cursor,
-            text.field,
-            ORIGIN,
-            pel,
-        );
-        pen = typed(set, code, pen);
-        count += 1;
+        count = formatted.count;
+        pen = formatted.pen;
     }
-    Put { count, pen }
+    Page { count, pen }
 }
 
-// Characters one after the other while no command is open.
+// Characters and format effectors one after the other while no command is open.
 pub fn run_text(
     set: Repertoire,
     pen: Pen,
@@ -109,7 +244,8 @@ pub fn run_text(
     ensures most { λ r. ⌜ from + r .count ≤ to ⌝ }
 {
     let most = most_steps(to - from, out.len() - at);
-    let put = put_characters(set, pen, command, look, bytes, from, most, out, at);
+    let common = common_of(set, look);
+    let put = put_text(common, pen, bytes, from, most, out, at);
     let count = put.count;
     if count == 0 {
         return Ran {

@@ -1,9 +1,11 @@
 // Runs: many bytes of one set at once, each a step of its own.
 pub mod characters;
+mod lines;
 pub mod strokes;
 
 use rules::Command;
 use rules::Pen;
+use rules::Point;
 use rules::RECORD_SIZE;
 use rules::ROOM_FOR_STEP;
 ghost use Prim.Native.Nat.{ℕ, _+_, _*_, _<_, _≤_};
@@ -14,6 +16,15 @@ pub struct Ran {
     pub count: usize,
     pub at: usize,
     pub pen: Pen,
+    pub command: Command,
+}
+
+// The same of a run that looks at no text: the point, and whether it was moved.
+pub struct Passed {
+    pub count: usize,
+    pub at: usize,
+    pub moved: bool,
+    pub point: Point,
     pub command: Command,
 }
 

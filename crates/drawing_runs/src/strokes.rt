@@ -11,7 +11,7 @@ use rules::Command;
 use rules::Due;
 use rules::Look;
 use rules::ORIGIN;
-use rules::Pen;
+use rules::Operand;
 use rules::Point;
 use rules::RECORD_SIZE;
 use rules::ROOM_FOR_STEP;
@@ -21,10 +21,10 @@ ghost use mathlib.Core.List.{List};
 ghost use Prim.Native.Nat.{ℕ, _+_, _≤_};
 ghost use lib.ListN.{length};
 ghost use Rattle.rules.specs.declared.Pattern.{Pattern};
-ghost use Rattle.rules.specs.declared.Set.{Set};
+ghost use Rattle.rules.specs.declared.Text.{Text};
 ghost use Rattle.rules.specs.Drawing.{row, rowOf};
-ghost use Rattle.drawing_runs.specs.Run.{standing, Run};
-ghost use Rattle.drawing_runs.specs.Strokes.{penAfter, StrokeDue, Moves, Lines};
+ghost use Rattle.figures.specs.Tracing.{penAt};
+ghost use Rattle.drawing_runs.specs.Strokes.{StrokeDue, Moves, Lines, PassesTo};
 
 const POINT_SET: u8 = 36;
 
@@ -114,10 +114,11 @@ fn is_first(due: Due) -> bool
 }
 
 // Whether the first operand is due, none of it begun, and points have three bytes in two dimensions.
-fn is_ready(pen: Pen, command: Command, look: Look) -> bool
-    ensures { λ r. ⌜ (r ≡ true → (kind : ℕ) → rowOf (command .opcode) ≡ row Pattern.A kind false → StrokeDue kind pen command look) ⌝ }
+fn is_ready(operand: Operand, command: Command, look: Look) -> bool
+    ensures { λ r. ⌜ (r ≡ true → (kind : ℕ) → rowOf (command .opcode) ≡ row Pattern.A kind false → (p : Point) (t : Text)
+        → StrokeDue kind (penAt p t operand) command look) ⌝ }
 {
-    if pen.operand.count != 0 {
+    if operand.count != 0 {
         return false;
     }
     let due = command.due;
@@ -130,7 +131,8 @@ fn is_ready(pen: Pen, command: Command, look: Look) -> bool
 
 // As many bytes as are whole points of POINT SET or LINE, absolute. The command stays as it is.
 pub fn draw_strokes(
-    pen: Pen,
+    point: Point,
+    operand: Operand,
     command: Command,
     look: Look,
     bytes: &[u8],
@@ -140,12 +142,10 @@ pub fn draw_strokes(
     at: usize,
 ) -> Lined
     requires { ⌜ (from ≤ to) × (to ≤ length (now bytes)) × (at ≤ length (now out)) ⌝ }
-    ensures ran { λ r. ⌜ ((m : List ℕ)
-        → Run Set.Pdi (now (bytes .entry)) from (standing pen command look m at (now (out .entry))) (r .count)
-        (standing (penAfter (r .count) true pen (r .point)) command look m (r .at) (now (out .exit)))) ⌝ }
+    ensures ran { λ r. ⌜ PassesTo (now (bytes .entry)) from point operand command look at (now (out .entry))
+        (record { count = r .count; at = r .at; moved = true; point = r .point; command = command }) (now (out .exit)) ⌝ }
     ensures most { λ r. ⌜ from + r .count ≤ to ⌝ }
 {
-    let point = pen.point;
     let none = Lined {
         count: 0,
         at,
@@ -154,7 +154,7 @@ pub fn draw_strokes(
     if out.len() - at < ROOM_FOR_STEP {
         return none;
     }
-    if !is_ready(pen, command, look) {
+    if !is_ready(operand, command, look) {
         return none;
     }
     if command.opcode == POINT_SET {

@@ -1,6 +1,6 @@
 -- What the files of this crate use of the libraries, under one name
 pub use mathlib.Core.Path.{_≡_, refl, sym, ap, _∙_, subst}
-pub use mathlib.Core.Bool.{true, false}
+pub use mathlib.Core.Bool.{Bool, true, false}
 pub use mathlib.Core.List.{List, _++_, append-nil, append-assoc}
 pub use Prim.Native.Nat.{ℕ, suc, _+_, _-_, _≤_, _<_}
 pub use native.Mathlib.Nat.{add-zero, zero-add, sub-zero, add-suc, suc-add}

@@ -1,5 +1,5 @@
 -- The loop of a reading over the parts that the code holds
-use Rattle.reading.proofs.Prelude.{ℕ, _+_, _-_, _<_, _≤_, _≡_, refl, sym, ap, _∙_, subst, true, false, List, length, drop, ltb}
+use Rattle.reading.proofs.Prelude.{ℕ, _+_, _-_, _<_, _≤_, _≡_, refl, sym, ap, _∙_, subst, Bool, true, false, List, length, drop, ltb}
 use Rattle.rules.specs.declared.Action.{Action}
 use Rattle.rules.specs.declared.Answer.{Answer}
 use Rattle.rules.specs.declared.Answer.the-variants.{Done, Full, Refused}
@@ -10,6 +10,7 @@ use Rattle.rules.specs.declared.Pen.{Pen}
 use Rattle.rules.specs.declared.Refusal.the-variants.{TooManyVertices}
 use Rattle.rules.specs.declared.Session.{Session}
 use Rattle.rules.specs.declared.Status.{Status}
+use Rattle.rules.specs.declared.Text.{Text}
 use Rattle.rules.specs.Numbers.{roomForStep}
 use Rattle.rules.specs.Step.{State, stateLent}
 use Rattle.rules.specs.Turn.{turn}
@@ -17,6 +18,9 @@ use Rattle.rules.specs.Drawing.{act}
 use Rattle.rules.specs.Ranges.{drawingFits}
 use Rattle.rules.specs.Reading.{Room, reading, Valid}
 use Rattle.rules.specs.Calls.{handed}
+use Rattle.rules.proofs.Bools.{true-false}
+use Rattle.text.specs.Tips.{penOf}
+use Rattle.text.specs.declared.tips.Tip.{Tip}
 use Rattle.figures.specs.declared.Drawn.{Drawn}
 use Rattle.figures.specs.Carried.{carry, drawingOf, carriedOf}
 use Rattle.bodies.specs.Stack.{bodiesOf}
@@ -27,7 +31,7 @@ use Rattle.rules.specs.declared.Fed.{Fed}
 use Rattle.turns.specs.Leaving.{Left, leaves}
 use Rattle.turns.specs.declared.progress.Reached.{Reached}
 use Rattle.turns.specs.Progress.{startOf, writtenTo, drawnTo}
-use Rattle.turns.specs.View.{stateAt, answered, sessionAfter, leftOf, DrawDueBy, DrawDue, RoomBy, readOnIf}
+use Rattle.turns.specs.View.{stateAt, answered, sessionAfter, leftOf, DrawDueBy, DrawDue, RoomBy, readOnIf, textIf}
 use Rattle.rules.specs.Promises.{handedOf}
 use Rattle.turns.specs.Handing.{fedOf}
 use Rattle.turn_runs.specs.Walk.{Stands, reachedAt}
@@ -49,10 +53,11 @@ pub drawn-room : (r : Turned) (n : ℕ) (a : Action) → r .course ≡ Draws a �
 drawn-room r n a g u = rw g at u
 
 -- The tests before a feed look at no colour of the map
-pub stands-any : {piece out : List ℕ} (budget : ℕ) (x : Reached) (cells places firsts map st : List ℕ) → Stands piece (reachedAt budget x cells places firsts map st out)
-    → (m : List ℕ) → Stands piece (reachedAt budget x cells places firsts m st out)
+pub stands-any : {piece out : List ℕ} (budget : ℕ) (x : Reached) (words cells places firsts map st : List ℕ)
+    → Stands piece (reachedAt budget x words cells places firsts map st out)
+    → (m : List ℕ) → Stands piece (reachedAt budget x words cells places firsts m st out)
 unfolding drawingFits
-stands-any budget x cells places firsts map st h m =
+stands-any budget x words cells places firsts map st h m =
     let v = h .sound in
     record { sound = record { size = v .size; running = v .running; bodies = v .bodies; waiting = v .waiting; drawing = v .drawing }; on = h .on; within = h .within }
 
@@ -88,11 +93,12 @@ module _ (w₀ : State) (budget : ℕ) (piece out₀ : List ℕ) (p : Progress) 
       read = rw (ap (λ (z : Progress). z .depth) (due .0)) h
 
       pub loop-draws : m .«too_many_vertices» ≡ false → (x : Reached) → x ≡ drawnTo m (r .progress)
-          → (Kept w₀ piece out₀ (stateAt budget (x .progress) cells₂ places₂ firsts₁ (drawingOf (x .pen) (x .command) (x .look) map₁) st₁) (x .progress .at) (x .progress .written) out₁)
+          → (t u : Text) → t ≡ textIf (m .«too_many_vertices») u (m .pen .text)
+          → (Kept w₀ piece out₀ (stateAt budget (x .progress) cells₂ places₂ firsts₁ (drawingOf (penOf t (x .tip)) (x .command) (x .look) map₁) st₁) (x .progress .at) (x .progress .written) out₁)
           × (x .progress .steps ≡ 1 + p .steps)
           × (p .steps < budget)
-      loop-draws n x k =
-          rw k
+      loop-draws n x k t u v =
+          rw (k, v, n)
           (next (record { course = GoesOn; state = stateAt budget (writtenTo (m .at) (r .progress)) cells₂ places₂ firsts₁ (drawingOf (m .pen) (m .command) (m .look) map₁) st₁; consumed = r .progress .at; written = m .at; output = out₁ })
           (rw g (draw-goes budget p (r .progress) (due .0) cells₁ places₁ firsts₁ d st₁ out (r .cursor) a m map₁ out₁ f cells₂ places₂ read n)))
 
@@ -103,15 +109,27 @@ module _ (w₀ : State) (budget : ℕ) (piece out₀ : List ℕ) (p : Progress) 
           next (record { course = Ends (Refused TooManyVertices); state = answered (Refused TooManyVertices) (stateAt budget p cells₂ places₂ firsts₁ (drawingOf pen command look map₁) st₁); consumed = p .at; written = p .written; output = out₁ })
           (rw g (draw-refused budget p (r .progress) (due .0) cells₁ places₁ firsts₁ d st₁ out (r .cursor) a m map₁ out₁ f cells₂ places₂ read pen command look map k n))
 
+-- The text that is handed over, read as another that is the same
+pub fed-text : (a : Answer) (budget : ℕ) (p : Progress) (cells places firsts : List ℕ) (t u : Text) (x : Tip) (c : Command) (l : Look) (map : List ℕ) → t ≡ u
+    → (r : Fed) → r ≡ fedOf a p (sessionAfter a budget p cells places firsts (drawingOf (penOf t x) c l map))
+    → r ≡ fedOf a p (sessionAfter a budget p cells places firsts (drawingOf (penOf u x) c l map))
+fed-text a budget p cells places firsts t u x c l map e r f =
+    f ∙ ap (λ (v : Text). fedOf a p (sessionAfter a budget p cells places firsts (drawingOf (penOf v x) c l map))) e
+
+-- A refused action leaves the text
+pub text-refused : (b : Bool) (t u v : Text) → b ≡ true → t ≡ textIf b u v → t ≡ u
+text-refused true t u v h e = e
+text-refused false t u v h e = true-false (sym h)
+
 -- From a session that is lent, and to what is handed over
-module _ (s : Session) (st₀ piece out₀ : List ℕ) (valid : Valid (stateLent s st₀)) (x₀ : Reached) (e₀ : x₀ ≡ startOf s) where
+module _ (s : Session) (st₀ piece out₀ : List ℕ) (valid : Valid (stateLent s st₀)) (t₀ : Text) (f₀ : t₀ ≡ s .drawing .pen .text) (x₀ : Reached) (e₀ : x₀ ≡ startOf s) where
   -- The state that is lent, in parts
   abbrev first : State
-  first = stateAt (s .budget) (x₀ .progress) (s .bodies .cells) (s .bodies .places) (s .coding .firsts) (drawingOf (x₀ .pen) (x₀ .command) (x₀ .look) (s .drawing .map)) st₀
+  first = stateAt (s .budget) (x₀ .progress) (s .bodies .cells) (s .bodies .places) (s .coding .firsts) (drawingOf (penOf t₀ (x₀ .tip)) (x₀ .command) (x₀ .look) (s .drawing .map)) st₀
 
   first-lent : first ≡ stateLent s st₀
   first-lent =
-      rw e₀
+      rw (e₀, f₀)
       (ap (λ (x : Status).
       record {
         session = record { budget = s .budget; steps = s .steps; status = x; bodies = s .bodies; coding = s .coding; drawing = s .drawing };

@@ -3,6 +3,8 @@ use rules::Answer;
 use rules::Fed;
 use rules::Refusal;
 use rules::Session;
+use text::words::put_text;
+use text::words::text_of;
 use turn_runs::run::run;
 use turns::handing::finish;
 use turns::handing::start;
@@ -20,7 +22,7 @@ ghost use Rattle.rules.specs.Step.{stateLent};
 ghost use Rattle.rules.specs.Promises.{handedOf};
 
 // The turns of a reading, until one ends it. Before each turn a run takes as many bytes at once as it can. Whatever is half read, an
-// operand, a sequence or a body, lies in the session, so that the next call goes on.
+// operand, a sequence or a body, lies in the session, so that the next call goes on. The text is kept in words, which are lent.
 pub fn read(session: Session, store: &mut [u8], piece: &[u8], out: &mut [u8]) -> Fed
     requires { ⌜ Valid (stateLent session (now store)) ⌝ }
     ensures { λ r. ⌜ handedOf r (now (store .exit)) (now (out .exit))
@@ -34,12 +36,17 @@ pub fn read(session: Session, store: &mut [u8], piece: &[u8], out: &mut [u8]) ->
     let mut places = session.bodies.places;
     let mut firsts = session.coding.firsts;
     let mut map = session.drawing.map;
+    let drawing = session.drawing;
+    let pen = drawing.pen;
+    let mut words: [u32; 9] = [0; 9];
+    put_text(&mut words, pen.text);
     let mut reached = start(session);
     loop {
         let taken = reached.progress.steps;
         reached = run(
             reached,
             budget,
+            &mut words,
             &mut cells,
             &mut places,
             &mut firsts,
@@ -66,7 +73,8 @@ pub fn read(session: Session, store: &mut [u8], piece: &[u8], out: &mut [u8]) ->
         let next = turned.progress;
         match course {
             Course::Ends(answer) => {
-                return finish(answer, budget, reached, cells, places, firsts, map);
+                let text = text_of(&words);
+                return finish(answer, budget, reached, text, cells, places, firsts, map);
             }
             Course::GoesOn => reached = with_progress(reached, next),
             Course::Draws(action) => {
@@ -74,6 +82,7 @@ pub fn read(session: Session, store: &mut [u8], piece: &[u8], out: &mut [u8]) ->
                     action,
                     turned.cursor,
                     reached,
+                    &mut words,
                     &mut cells,
                     &mut places,
                     &mut map,
@@ -81,7 +90,8 @@ pub fn read(session: Session, store: &mut [u8], piece: &[u8], out: &mut [u8]) ->
                 );
                 if drawn.too_many_vertices {
                     let answer = Answer::Refused(Refusal::TooManyVertices);
-                    return finish(answer, budget, reached, cells, places, firsts, map);
+                    let text = text_of(&words);
+                    return finish(answer, budget, reached, text, cells, places, firsts, map);
                 }
                 reached = after_drawing(next, drawn);
                 continue;

@@ -171,7 +171,7 @@ there-and-back w r n c k m f b g = go w (low w f) (low-below w b) g
 -- Setting the cursor
 
 -- The point that a cursor leads doesn't depend on where the point was led before
-led-led : (m : Moving) (t u : Text) (p : Point) → led m t (led m u p) ≡ led m t p
+pub led-led : (m : Moving) (t u : Text) (p : Point) → led m t (led m u p) ≡ led m t p
 unfolding led
 led-led Together t u p = refl
 led-led CursorLeads t u p = refl
@@ -247,7 +247,7 @@ feed-return s = undone _ _ _ _ _ _ (firstPosition s)
 
 -- There and back
 
-stride-truncated : (r : Reach) (n : ℕ) → stride r n % 256 ≡ 0
+pub stride-truncated : (r : Reach) (n : ℕ) → stride r n % 256 ≡ 0
 unfolding stride trunc256
 stride-truncated r n = omega arith
 
@@ -293,7 +293,7 @@ step-back Down s k f b g =
       y = there-and-back false (fieldBox t .y) (stride (fieldBox t .y) (spacingQuarters (t .settings .spacing))) (t .cursor .y) (k .1) (stride-truncated (fieldBox t .y) (spacingQuarters (t .settings .spacing))) f b g i;
     }
 
-advance-steps : (s : Pen) → fitsNext (s .text .settings .path) (s .text) ≡ true → advance s ≡ oneStep (s .text .settings .path) s
+pub advance-steps : (s : Pen) → fitsNext (s .text .settings .path) (s .text) ≡ true → advance s ≡ oneStep (s .text .settings .path) s
 unfolding advance
 advance-steps s f = pick-yes (oneStep (s .text .settings .path) s) (automaticPair s) f
 

@@ -5,6 +5,7 @@ use Rattle.rules.specs.declared.Coordinate.{Coordinate}
 use Rattle.rules.specs.declared.FieldBox.{FieldBox}
 use Rattle.rules.specs.declared.Moving.{Moving}
 use Rattle.rules.specs.declared.Moving.the-variants.{Together, CursorLeads, PointLeads}
+use Rattle.rules.specs.declared.Pair.{Pair}
 use Rattle.rules.specs.declared.Pair.the-variants.{NoPair}
 use Rattle.rules.specs.declared.Pen.{Pen}
 use Rattle.rules.specs.declared.Point.{Point}
@@ -15,7 +16,7 @@ use Rattle.rules.specs.declared.Text.{Text}
 use Rattle.rules.specs.Numbers.{screenSide}
 use Rattle.rules.specs.Text.{trunc256, min, max, magnitude, coordinateOf, fieldFits, held, stride, afterStride, entryEdge, rowStep}
 use Rattle.rules.specs.Text.{turnedBox, boxOf, fieldBox, withCursor, offset, pointOn, pointAt, cursorOn, cursorAt, led, following}
-use Rattle.rules.specs.Text.{setCursor}
+use Rattle.rules.specs.Text.{aligned, setCursor}
 use Rattle.rules.proofs.TextLaws.{min-right}
 use Rattle.rules.proofs.Bools.{pick-yes, pick-no}
 
@@ -113,9 +114,17 @@ pub cursor-at-of : (t : Text) (p : Point) (e : FieldBox) (x y : ℕ) → e ≡ f
 unfolding cursorAt
 cursor-at-of t p e x y ee f g = rw (f, g, ee)
 
-pub set-of : (x y : Coordinate) (s : Pen) (e : FieldBox) (cx cy : ℕ) (t : Text) (p : Point) → e ≡ fieldBox (s .text) → cx ≡ held (e .x) x → cy ≡ held (e .y) y → t ≡ withCursor (record { x = cx; y = cy }) NoPair (s .text) → p ≡ led (t .settings .moving) t (s .point) → record { point = p; text = t; operand = s .operand } ≡ setCursor x y s
+pub put-of : (b : FieldBox) (x y : Coordinate) (w : Pair) (t : Text) (cx cy : ℕ) → cx ≡ held (b .x) x → cy ≡ held (b .y) y → withCursor (record { x = cx; y = cy }) w t ≡ withCursor (record { x = held (b .x) x; y = held (b .y) y }) w t
+put-of b x y w t cx cy e f = λ i. withCursor (record { x = e i; y = f i }) w t
+
+pub aligned-of : (t : Text) (s : Pen) (p : Point) → p ≡ led (t .settings .moving) t (s .point) → record { point = p; text = t; operand = s .operand } ≡ aligned t s
+aligned-of t s p e = λ i. record { point = e i; text = t; operand = s .operand }
+
+pub set-of : (x y : Coordinate) (s o : Pen) (e : FieldBox) (t : Text) → e ≡ fieldBox (s .text) → t ≡ withCursor (record { x = held (e .x) x; y = held (e .y) y }) NoPair (s .text) → o ≡ aligned t s → o ≡ setCursor x y s
 unfolding setCursor
-set-of x y s e cx cy t p ee f g h k = rw (k, h, f, g, ee)
+set-of x y s o e t ee f g =
+    let u = f ∙ (λ i. withCursor (record { x = held (ee i .x) x; y = held (ee i .y) y }) NoPair (s .text)) in
+    g ∙ ap (λ (z : Text). aligned z s) u
 
 -- By the move attribute, which stands apart from the text that it belongs to
 module _ (m : Moving) (t : Text) (p : Point) where

@@ -1,2 +1,4 @@
 pub mod AxisLaws
 pub mod MoverLaws
+pub mod LineLaws
+pub mod WordLaws

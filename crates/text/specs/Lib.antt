@@ -1,1 +1,4 @@
 pub mod Prelude
+pub mod Line
+pub mod Tips
+pub mod Words

@@ -10,7 +10,7 @@ ghost use Rattle.rules.specs.Text.{trunc256, min, max, magnitude, coordinateOf,
 const NEGATIVE: u32 = 0x8000_0000;
 
 // The last multiple of 256 on the screen.
-const LAST: u64 = 0x7FFF_FF00;
+pub(crate) const LAST: u64 = 0x7FFF_FF00;
 
 // The number of patterns.
 pub(crate) const PATTERNS: u64 = 0x1_0000_0000;
@@ -22,7 +22,7 @@ fn trunc256(n: u64) -> u64
     n / 256 * 256
 }
 
-fn min(a: u64, b: u64) -> u64
+pub(crate) fn min(a: u64, b: u64) -> u64
     ensures { λ r. ⌜ r ≡ min a b ⌝ }
 {
     if a <= b {
@@ -41,7 +41,7 @@ fn max(a: u64, b: u64) -> u64
 }
 
 // A difference, zero where it would be negative.
-fn less(a: u64, b: u64) -> u64
+pub(crate) fn less(a: u64, b: u64) -> u64
     ensures { λ r. ⌜ r ≡ a - b ⌝ }
 {
     if a <= b {
@@ -95,7 +95,7 @@ pub(crate) fn held(reach: Reach, at: Coordinate) -> u32
 }
 
 // An advance or a row step: so many quarters of the field's extent.
-fn stride(reach: Reach, quarters: u8) -> u64
+pub(crate) fn stride(reach: Reach, quarters: u8) -> u64
     ensures { λ n. ⌜ (n ≡ stride reach quarters) × (n < 1099511627776) ⌝ }
 {
     let extent = reach.before as u64 + reach.after as u64;

@@ -4,6 +4,7 @@ use crate::axis::coordinate_of;
 use crate::axis::held;
 use crate::field::field_box;
 use rules::Coordinate;
+use rules::FieldBox;
 use rules::Moving;
 use rules::Pair;
 use rules::Pen;
@@ -12,7 +13,7 @@ use rules::Reach;
 use rules::Style;
 use rules::Text;
 ghost use mathlib.Core.Path.{_≡_};
-ghost use Rattle.rules.specs.Text.{half, offset, pointOn, pointAt, cursorOn, cursorAt, led, following, follow, setCursor, withCursor, withText};
+ghost use Rattle.rules.specs.Text.{half, offset, pointOn, pointAt, cursorOn, cursorAt, held, led, aligned, following, follow, setCursor, withCursor, withText};
 
 // Half a reach, truncated.
 fn half(n: u32) -> u32
@@ -110,7 +111,7 @@ fn led(text: Text, point: Point) -> Point
 }
 
 // Another cursor, with no pair begun.
-pub(crate) fn with_cursor(text: Text, cursor: Point) -> Text
+pub fn with_cursor(text: Text, cursor: Point) -> Text
     ensures { λ u. ⌜ u ≡ withCursor cursor Pair.NoPair text ⌝ }
 {
     let settings = text.settings;
@@ -170,14 +171,33 @@ pub fn follow(pen: Pen, point: Point) -> Pen
     }
 }
 
-// The cursor set, held on the screen, and the drawing point with it as the move attribute says.
-pub(crate) fn set_cursor(x: Coordinate, y: Coordinate, pen: Pen) -> Pen
-    ensures { λ r. ⌜ r ≡ setCursor x y pen ⌝ }
+// The cursor put at two coordinates, each held on the screen in the field's box.
+pub(crate) fn put_cursor(
+    bounds: FieldBox,
+    x: Coordinate,
+    y: Coordinate,
+    pair: Pair,
+    text: Text,
+) -> Text
+    ensures { λ u. ⌜ u ≡ withCursor (record { x = held (bounds .x) x; y = held (bounds .y) y }) pair text ⌝ }
 {
-    let bounds = field_box(pen.text);
+    let settings = text.settings;
+    let field = text.field;
     let x = held(bounds.x, x);
     let y = held(bounds.y, y);
-    let text = with_cursor(pen.text, Point { x, y });
+    let cursor = Point { x, y };
+    Text {
+        settings,
+        field,
+        cursor,
+        pair,
+    }
+}
+
+// The pen after its text became this one: the drawing point led by the cursor, as the move attribute says.
+pub fn aligned(text: Text, pen: Pen) -> Pen
+    ensures { λ r. ⌜ r ≡ aligned text pen ⌝ }
+{
     let point = led(text, pen.point);
     let operand = pen.operand;
     Pen {
@@ -185,4 +205,13 @@ pub(crate) fn set_cursor(x: Coordinate, y: Coordinate, pen: Pen) -> Pen
         text,
         operand,
     }
+}
+
+// The cursor set, held on the screen, and the drawing point with it as the move attribute says.
+pub(crate) fn set_cursor(x: Coordinate, y: Coordinate, pen: Pen) -> Pen
+    ensures { λ r. ⌜ r ≡ setCursor x y pen ⌝ }
+{
+    let bounds = field_box(pen.text);
+    let text = put_cursor(bounds, x, y, Pair::NoPair, pen.text);
+    aligned(text, pen)
 }

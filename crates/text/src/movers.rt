@@ -3,7 +3,10 @@ use crate::axis::after_stride;
 use crate::axis::coordinate_of;
 use crate::axis::entry_edge;
 use crate::axis::field_fits;
+use crate::axis::held;
 use crate::axis::row_step;
+use crate::cursor::aligned;
+use crate::cursor::put_cursor;
 use crate::cursor::set_cursor;
 use crate::field::field_box;
 use crate::field::interrow_quarters;
@@ -11,15 +14,17 @@ use crate::field::spacing_quarters;
 use rules::Coordinate;
 use rules::DISPLAY_TOP;
 use rules::Effector;
+use rules::FieldBox;
 use rules::Pair;
 use rules::Path;
 use rules::Pen;
 use rules::Reach;
 use rules::Text;
 ghost use mathlib.Core.Path.{_≡_};
-ghost use Rattle.rules.specs.Text.{alongX, forwards, opposite, rowDirection, cursorAlong, reachAlong, setAlong, nextAlong, fitsNext, enter, rowIn, rowDown, rowUp, firstPosition, automaticPair, advance, apb, home, paired, apr, apd, formatted};
+ghost use Rattle.rules.specs.Text.{onAxis, alongX, forwards, opposite, rowDirection, cursorAlong, reachAlong, setAlong, nextAlong, fitsNext, enter, rowIn, rowDown, rowUp, firstPosition, advance, apb, home, paired, apr, apd, formatted};
+ghost use Rattle.text.specs.Line.{putAlong, wrapped, Advances};
 
-fn along_x(direction: Path) -> bool
+pub(crate) fn along_x(direction: Path) -> bool
     ensures { λ r. ⌜ r ≡ alongX direction ⌝ }
 {
     match direction {
@@ -30,7 +35,7 @@ fn along_x(direction: Path) -> bool
     }
 }
 
-fn forwards(direction: Path) -> bool
+pub(crate) fn forwards(direction: Path) -> bool
     ensures { λ r. ⌜ r ≡ forwards direction ⌝ }
 {
     match direction {
@@ -65,7 +70,7 @@ fn row_direction(path: Path) -> Path
 }
 
 // The cursor on the axis of a direction.
-fn cursor_along(direction: Path, text: Text) -> u32
+pub(crate) fn cursor_along(direction: Path, text: Text) -> u32
     ensures { λ r. ⌜ r ≡ cursorAlong direction text ⌝ }
 {
     let cursor = text.cursor;
@@ -75,15 +80,22 @@ fn cursor_along(direction: Path, text: Text) -> u32
     cursor.y
 }
 
+// What a box reaches on the axis of a direction.
+pub(crate) fn reach_in(direction: Path, bounds: FieldBox) -> Reach
+    ensures { λ r. ⌜ r ≡ onAxis direction (bounds .x) (bounds .y) ⌝ }
+{
+    if along_x(direction) {
+        return bounds.x;
+    }
+    bounds.y
+}
+
 // The field's reach on the axis of a direction.
 fn reach_along(direction: Path, text: Text) -> Reach
     ensures { λ r. ⌜ r ≡ reachAlong direction text ⌝ }
 {
     let bounds = field_box(text);
-    if along_x(direction) {
-        return bounds.x;
-    }
-    bounds.y
+    reach_in(direction, bounds)
 }
 
 // The cursor set on the axis of a direction.
@@ -205,25 +217,63 @@ fn paired(pair: Pair, pen: Pen) -> Pen
     }
 }
 
-// The automatic APR APD of a field that would leave the screen along the path.
-fn automatic_pair(pen: Pen) -> Pen
-    ensures { λ r. ⌜ r ≡ automaticPair pen ⌝ }
+// The cursor put on the axis of a direction and across it.
+fn put_along(
+    direction: Path,
+    bounds: FieldBox,
+    to: Coordinate,
+    across: Coordinate,
+    pair: Pair,
+    text: Text,
+) -> Text
+    ensures { λ u. ⌜ u ≡ putAlong direction bounds to across pair text ⌝ }
 {
-    let first = first_position(pen);
-    let down = row_down(first);
-    paired(Pair::Automatic, down)
+    if along_x(direction) {
+        return put_cursor(bounds, to, across, pair, text);
+    }
+    put_cursor(bounds, across, to, pair, text)
+}
+
+// The automatic APR APD of a field that would leave the screen along the path: the row step starts where the cursor is held.
+fn wrapped(path: Path, bounds: FieldBox, text: Text) -> Text
+    ensures { λ u. ⌜ u ≡ wrapped path bounds text ⌝ }
+{
+    let settings = text.settings;
+    let interrow = settings.interrow;
+    let reach = reach_in(path, bounds);
+    let edge = entry_edge(reach, forwards(path));
+    let down = row_direction(path);
+    let across = reach_in(down, bounds);
+    let place = coordinate_of(cursor_along(down, text));
+    let from = held(across, place);
+    let row = row_step(across, forwards(down), interrow_quarters(interrow), from);
+    put_along(path, bounds, edge, row, Pair::Automatic, text)
+}
+
+// The text after a character that spaces; the drawing point is to be aligned with it.
+pub fn advanced(text: Text) -> Text
+    ensures { λ u. ⌜ Advances text u ⌝ }
+{
+    let bounds = field_box(text);
+    let settings = text.settings;
+    let path = settings.path;
+    let spacing = settings.spacing;
+    let reach = reach_in(path, bounds);
+    let from = cursor_along(path, text);
+    let next = after_stride(reach, forwards(path), spacing_quarters(spacing), from);
+    if field_fits(reach, next) {
+        let across = coordinate_of(cursor_along(row_direction(path), text));
+        return put_along(path, bounds, next, across, Pair::NoPair, text);
+    }
+    wrapped(path, bounds, text)
 }
 
 // The advance of a character that spaces, and APF.
 pub(crate) fn advance(pen: Pen) -> Pen
     ensures { λ r. ⌜ r ≡ advance pen ⌝ }
 {
-    let path = path_of(pen);
-    if fits_next(path, pen.text) {
-        let next = next_along(path, pen.text);
-        return set_along(path, next, pen);
-    }
-    automatic_pair(pen)
+    let text = advanced(pen.text);
+    aligned(text, pen)
 }
 
 // APB.

@@ -110,7 +110,7 @@ fn style_of(code: u8) -> Style
     Style::Custom
 }
 
-fn byte_one(byte: u8, settings: Settings) -> Settings
+pub(crate) fn byte_one(byte: u8, settings: Settings) -> Settings
     ensures { λ r. ⌜ r ≡ byteOne byte settings ⌝ }
 {
     let rotation = rotation_of(byte % 4);
@@ -129,7 +129,7 @@ fn byte_one(byte: u8, settings: Settings) -> Settings
     }
 }
 
-fn byte_two(byte: u8, settings: Settings) -> Settings
+pub(crate) fn byte_two(byte: u8, settings: Settings) -> Settings
     ensures { λ r. ⌜ r ≡ byteTwo byte settings ⌝ }
 {
     let rotation = settings.rotation;
@@ -223,7 +223,7 @@ pub fn close_text(due: Due, pen: Pen) -> Pen
     set_cursor(x, y, closed)
 }
 
-fn fresh_settings() -> Settings
+pub(crate) fn fresh_settings() -> Settings
     ensures { λ r. ⌜ r ≡ freshSettings ⌝ }
 {
     Settings {

@@ -1,2 +1,3 @@
 pub mod RunLaws
 pub mod ProgressLaws
+pub mod DrewLaws

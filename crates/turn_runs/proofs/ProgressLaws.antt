@@ -46,9 +46,9 @@ walk-then a none = a
 walk-then a (removed b) = removed (walk-then a b)
 walk-then a (step b m e) = step (walk-then a b) m e
 
-pub walk-from : {budget : ℕ} {r s : Reached} {cells places firsts map st piece out : List ℕ} {y : Place} → r ≡ s
-    → Walk piece (reachedAt budget r cells places firsts map st out) y → Walk piece (reachedAt budget s cells places firsts map st out) y
-walk-from e a = rw (← e) a
+pub walk-from : {budget : ℕ} {r s : Reached} (words : List ℕ) {cells places firsts map st piece out : List ℕ} {y : Place} → r ≡ s
+    → Walk piece (reachedAt budget r words cells places firsts map st out) y → Walk piece (reachedAt budget s words cells places firsts map st out) y
+walk-from words e a = rw (← e) a
 
 -- Spent bodies removed
 

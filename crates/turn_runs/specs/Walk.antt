@@ -7,6 +7,8 @@ use Rattle.rules.specs.Record.{bytesOfAll}
 use Rattle.rules.specs.Step.{State, removeSpent}
 use Rattle.rules.specs.Turn.{Taken, Takes, turn}
 use Rattle.rules.specs.Reading.{consumedBy, stepsLeft, Valid}
+use Rattle.text.specs.Tips.{penOf}
+use Rattle.text.specs.Words.{textFrom}
 use Rattle.records.specs.Bytes.{overwrite}
 use Rattle.store.specs.Lent.{Sized}
 use Rattle.store.specs.Stretch.{Gives}
@@ -29,9 +31,9 @@ placed w at written out = record { state = w; at = at; written = written; output
 abbrev pub placeAt : ℕ → Progress → List ℕ → List ℕ → List ℕ → Drawing → List ℕ → List ℕ → Place
 placeAt budget p cells places firsts d st out = placed (stateAt budget p cells places firsts d st) (p .at) (p .written) out
 
-abbrev pub reachedAt : ℕ → Reached → List ℕ → List ℕ → List ℕ → List ℕ → List ℕ → List ℕ → Place
-reachedAt budget r cells places firsts map st out =
-    placeAt budget (r .progress) cells places firsts (drawingOf (r .pen) (r .command) (r .look) map) st out
+abbrev pub reachedAt : ℕ → Reached → List ℕ → List ℕ → List ℕ → List ℕ → List ℕ → List ℕ → List ℕ → Place
+reachedAt budget r words cells places firsts map st out =
+    placeAt budget (r .progress) cells places firsts (drawingOf (penOf (textFrom words) (r .tip)) (r .command) (r .look) map) st out
 
 pub data Walk (piece : List ℕ) (x : Place) : Place → Type 0 where
   none : Walk piece x x

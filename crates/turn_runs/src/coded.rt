@@ -6,10 +6,13 @@ use bodies::calls::empty_calls;
 use bodies::depth_left;
 use bodies::set_body;
 use coding_runs::run_idle;
+use rules::Class;
+use rules::Control;
 use rules::Cursor;
 use rules::ROOM_FOR_STEP;
 use rules::Set;
 use rules::Waiting;
+use tables::controls::class_of;
 use turns::progress::Progress;
 use turns::progress::after_coding;
 use turns::progress::at_depth;
@@ -109,6 +112,21 @@ fn names_piece(
     progress
 }
 
+// Whether a control is drawn, so that no run of coded bytes takes it.
+fn is_drawn(waiting: Waiting, byte: u8) -> bool {
+    if !awaits_nothing(waiting) {
+        return false;
+    }
+    match class_of(byte) {
+        Class::Below(control) => match control {
+            Control::Recorded => true,
+            Control::Formats(_) => true,
+            _ => false,
+        },
+        _ => false,
+    }
+}
+
 // Bytes of the piece that write no record, with so many bytes of the output free.
 fn code_piece(
     progress: Progress,
@@ -145,6 +163,9 @@ fn code_piece(
     let waiting = progress.waiting;
     if awaits_nothing(waiting) && 32 <= piece[at] {
         return names_piece(progress, to, cells, places, firsts, piece);
+    }
+    if is_drawn(waiting, piece[at]) {
+        return progress;
     }
     idle_piece(progress, to, firsts, store, piece)
 }

@@ -4,19 +4,23 @@ use crate::reach;
 use crate::set_in_use;
 use bodies::body_at;
 use command_runs::run_commands;
-use drawing::data::resting;
-use drawing_runs::Ran;
+use drawing_runs::Passed;
 use drawing_runs::characters::run_text;
 use drawing_runs::strokes::draw_strokes;
 use rules::Command;
 use rules::Look;
-use rules::Pen;
+use rules::Operand;
+use rules::Point;
 use rules::Repertoire;
 use rules::Set;
 use store::cursors::Stretch;
 use store::cursors::stretch_of;
 use tables::controls::is_recorded;
-use text::cursor::follow;
+use text::tips::Tip;
+use text::tips::pen_of;
+use text::tips::tip_of;
+use text::words::put_text;
+use text::words::text_of;
 use turns::progress::Progress;
 use turns::progress::Reached;
 use turns::progress::after_run;
@@ -27,23 +31,61 @@ ghost use Prim.Native.Nat.{ℕ, _+_, _-_, _≤_};
 ghost use lib.ListN.{length};
 ghost use Rattle.rules.specs.Ranges.{domainFits, commandFits};
 ghost use Rattle.store.specs.Lent.{Sized};
-ghost use Rattle.drawing_runs.specs.Run.{RunsTo};
+ghost use Rattle.rules.specs.declared.Text.{Text};
+ghost use Rattle.text.specs.Words.{textFrom};
+ghost use Rattle.drawing_runs.specs.Strokes.{PassesTo};
+ghost use Rattle.turn_runs.specs.Drew.{tipAfter, DrawsTo};
 ghost use Rattle.turn_runs.specs.Walk.{Walk, Fit, sourceOf, Lies, Passes, placesAfter, reachedAt};
 
-fn none_drawn(pen: Pen, command: Command, at: usize) -> Ran
-    ensures { λ r. ⌜ r ≡ record { count = 0; at = at; pen = pen; command = command } ⌝ }
+// How many bytes a run took, the place after their records, and what they left beside the text.
+struct Drew {
+    count: usize,
+    at: usize,
+    tip: Tip,
+    command: Command,
+}
+
+fn none_drawn(tip: Tip, command: Command, at: usize) -> Drew
+    ensures { λ r. ⌜ r ≡ record { count = 0; at = at; tip = tip; command = command } ⌝ }
 {
-    Ran {
+    Drew {
         count: 0,
         at,
-        pen,
+        tip,
         command,
     }
 }
 
-// PDI bytes, where no operand is begun: many points of one stroke, whose loop is the shortest, else whole commands.
-fn draw_pdi(
-    pen: Pen,
+// The tip after so many bytes that looked at no text.
+fn tip_after(count: usize, moved: bool, point: Point, tip: Tip) -> Tip
+    ensures { λ r. ⌜ r ≡ tipAfter count moved point tip ⌝ }
+{
+    if count == 0 {
+        return tip;
+    }
+    let operand = Operand {
+        bytes: [0; 8],
+        count: 0,
+    };
+    if moved {
+        return Tip {
+            behind: true,
+            point,
+            operand,
+        };
+    }
+    let point = tip.point;
+    Tip {
+        behind: tip.behind,
+        point,
+        operand,
+    }
+}
+
+// Whole commands, or none where many points of one stroke come: their loop is the shortest.
+fn pass_points(
+    point: Point,
+    operand: Operand,
     command: Command,
     look: Look,
     bytes: &[u8],
@@ -51,31 +93,64 @@ fn draw_pdi(
     to: usize,
     out: &mut [u8],
     at: usize,
-) -> Ran
-    requires { ⌜ (domainFits (look .domain) ≡ true) × (commandFits command ≡ true) × (from ≤ to) × (to ≤ length (now bytes))
-        × (at ≤ length (now out)) ⌝ }
-    ensures ran { λ r. ⌜ RunsTo Set.Pdi (now (bytes .entry)) from pen command look at (now (out .entry)) r (now (out .exit)) ⌝ }
+) -> Passed
+    requires { ⌜ (operand .count ≡ 0) × (domainFits (look .domain) ≡ true) × (commandFits command ≡ true) × (from ≤ to)
+        × (to ≤ length (now bytes)) × (at ≤ length (now out)) ⌝ }
+    ensures ran { λ r. ⌜ PassesTo (now (bytes .entry)) from point operand command look at (now (out .entry)) r (now (out .exit)) ⌝ }
     ensures most { λ r. ⌜ from + r .count ≤ to ⌝ }
 {
-    if pen.operand.count != 0 {
-        return none_drawn(pen, command, at);
-    }
-    let lined = draw_strokes(pen, command, look, bytes, from, to, out, at);
+    let lined = draw_strokes(point, operand, command, look, bytes, from, to, out, at);
     if 0 < lined.count {
-        return Ran {
+        let point = lined.point;
+        return Passed {
             count: lined.count,
             at: lined.at,
-            pen: resting(follow(pen, lined.point)),
+            moved: true,
+            point,
             command,
         };
     }
-    run_commands(pen, command, look, bytes, from, to, out, at)
+    run_commands(point, command, look, bytes, from, to, out, at)
+}
+
+// PDI bytes, where no operand is begun. No text is looked at.
+fn draw_pdi(
+    tip: Tip,
+    command: Command,
+    look: Look,
+    bytes: &[u8],
+    from: usize,
+    to: usize,
+    out: &mut [u8],
+    at: usize,
+) -> Drew
+    requires { ⌜ (domainFits (look .domain) ≡ true) × (commandFits command ≡ true) × (from ≤ to) × (to ≤ length (now bytes))
+        × (at ≤ length (now out)) ⌝ }
+    ensures ran { λ r. ⌜ ((t : Text)
+        → DrawsTo Set.Pdi (now (bytes .entry)) from t tip command look at (now (out .entry)) r t (now (out .exit))) ⌝ }
+    ensures most { λ r. ⌜ from + r .count ≤ to ⌝ }
+{
+    let operand = tip.operand;
+    if operand.count != 0 {
+        return none_drawn(tip, command, at);
+    }
+    let point = tip.point;
+    let passed = pass_points(point, operand, command, look, bytes, from, to, out, at);
+    let tip = tip_after(passed.count, passed.moved, passed.point, tip);
+    let command = passed.command;
+    Drew {
+        count: passed.count,
+        at: passed.at,
+        tip,
+        command,
+    }
 }
 
 // Characters, where no command is open.
 fn draw_text(
     repertoire: Repertoire,
-    pen: Pen,
+    words: &mut [u32; 9],
+    tip: Tip,
     command: Command,
     look: Look,
     bytes: &[u8],
@@ -83,22 +158,34 @@ fn draw_text(
     to: usize,
     out: &mut [u8],
     at: usize,
-) -> Ran
+) -> Drew
     requires { ⌜ (from ≤ to) × (to ≤ length (now bytes)) × (at ≤ length (now out)) ⌝ }
-    ensures ran { λ r. ⌜ RunsTo (Set.Characters repertoire) (now (bytes .entry)) from pen command look at
-        (now (out .entry)) r (now (out .exit)) ⌝ }
+    ensures ran { λ r. ⌜ DrawsTo (Set.Characters repertoire) (now (bytes .entry)) from (textFrom (now (words .entry))) tip command
+        look at (now (out .entry)) r (textFrom (now (words .exit))) (now (out .exit)) ⌝ }
     ensures most { λ r. ⌜ from + r .count ≤ to ⌝ }
 {
     if command.opcode != 0 {
-        return none_drawn(pen, command, at);
+        return none_drawn(tip, command, at);
     }
-    run_text(repertoire, pen, command, look, bytes, from, to, out, at)
+    let pen = pen_of(text_of(words), tip);
+    let ran = run_text(repertoire, pen, command, look, bytes, from, to, out, at);
+    let pen = ran.pen;
+    put_text(words, pen.text);
+    let tip = tip_of(pen);
+    let command = ran.command;
+    Drew {
+        count: ran.count,
+        at: ran.at,
+        tip,
+        command,
+    }
 }
 
 // Bytes of the set that are drawn. Macro names draw nothing.
 fn draw_set(
     set: Set,
-    pen: Pen,
+    words: &mut [u32; 9],
+    tip: Tip,
     command: Command,
     look: Look,
     bytes: &[u8],
@@ -106,17 +193,19 @@ fn draw_set(
     to: usize,
     out: &mut [u8],
     at: usize,
-) -> Ran
+) -> Drew
     requires { ⌜ (domainFits (look .domain) ≡ true) × (commandFits command ≡ true) × (from ≤ to) × (to ≤ length (now bytes))
         × (at ≤ length (now out)) ⌝ }
-    ensures ran { λ r. ⌜ RunsTo set (now (bytes .entry)) from pen command look at (now (out .entry)) r (now (out .exit)) ⌝ }
+    ensures ran { λ r. ⌜ DrawsTo set (now (bytes .entry)) from (textFrom (now (words .entry))) tip command look at
+        (now (out .entry)) r (textFrom (now (words .exit))) (now (out .exit)) ⌝ }
     ensures most { λ r. ⌜ from + r .count ≤ to ⌝ }
 {
     match set {
-        Set::Pdi => draw_pdi(pen, command, look, bytes, from, to, out, at),
+        Set::Pdi => draw_pdi(tip, command, look, bytes, from, to, out, at),
         Set::Characters(repertoire) => draw_text(
             repertoire,
-            pen,
+            words,
+            tip,
             command,
             look,
             bytes,
@@ -125,7 +214,7 @@ fn draw_set(
             out,
             at,
         ),
-        Set::Macro => none_drawn(pen, command, at),
+        Set::Macro => none_drawn(tip, command, at),
     }
 }
 
@@ -207,6 +296,7 @@ fn begins_drawn(bytes: &[u8], from: usize, to: usize) -> bool
 pub fn run_drawn<'a>(
     reached: Reached,
     budget: u32,
+    words: &mut [u32; 9],
     cells: &[u8; 8],
     places: &mut [u8; 8],
     store: &'a [u8],
@@ -217,8 +307,10 @@ pub fn run_drawn<'a>(
         × (domainFits (reached .look .domain) ≡ true) × (commandFits (reached .command) ≡ true) ⌝ }
     ensures walk { λ r. ⌜ ((firsts map : List ℕ)
         → Walk (now (piece .entry))
-        (reachedAt budget reached (now (cells .entry)) (now (places .entry)) firsts map (now (store .entry)) (now (out .entry)))
-        (reachedAt budget r (now (cells .entry)) (now (places .exit)) firsts map (now (store .entry)) (now (out .exit)))) ⌝ }
+        (reachedAt budget reached (now (words .entry)) (now (cells .entry)) (now (places .entry)) firsts map (now (store .entry))
+        (now (out .entry)))
+        (reachedAt budget r (now (words .exit)) (now (cells .entry)) (now (places .exit)) firsts map (now (store .entry))
+        (now (out .exit)))) ⌝ }
     ensures most { λ r. ⌜ r .progress .steps - reached .progress .steps ≤ budget - reached .progress .steps ⌝ }
     ensures still { λ r. ⌜ (r .progress .steps ≤ reached .progress .steps
         → (r .progress .steps ≡ reached .progress .steps) × (r .progress .depth ≡ reached .progress .depth)
@@ -235,17 +327,28 @@ pub fn run_drawn<'a>(
         return reached;
     }
     let set = set_in_use(progress);
-    let pen = reached.pen;
+    let tip = reached.tip;
     let command = reached.command;
     let look = reached.look;
     let at = progress.written;
-    let ran = draw_set(set, pen, command, look, bytes, next.from, next.to, out, at);
-    read_past(progress.depth, ran.count, places);
-    let pen = ran.pen;
-    let command = ran.command;
+    let drew = draw_set(
+        set,
+        words,
+        tip,
+        command,
+        look,
+        bytes,
+        next.from,
+        next.to,
+        out,
+        at,
+    );
+    read_past(progress.depth, drew.count, places);
+    let tip = drew.tip;
+    let command = drew.command;
     Reached {
-        progress: after_run(progress, ran.count, ran.at),
-        pen,
+        progress: after_run(progress, drew.count, drew.at),
+        tip,
         command,
         look,
     }

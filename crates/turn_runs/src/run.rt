@@ -13,6 +13,7 @@ ghost use Rattle.turn_runs.specs.Walk.{Walk, Stands, reachedAt};
 pub fn run(
     reached: Reached,
     budget: u32,
+    words: &mut [u32; 9],
     cells: &mut [u8; 8],
     places: &mut [u8; 8],
     firsts: &mut [u8; 96],
@@ -21,13 +22,13 @@ pub fn run(
     out: &mut [u8],
 ) -> Reached
     requires { ⌜ ((map : List ℕ)
-        → Stands (now piece) (reachedAt budget reached (now cells) (now places) (now firsts) map (now store) (now out))) ⌝ }
+        → Stands (now piece) (reachedAt budget reached (now words) (now cells) (now places) (now firsts) map (now store) (now out))) ⌝ }
     ensures walk { λ r. ⌜ ((map : List ℕ)
         → Walk (now (piece .entry))
-        (reachedAt budget reached (now (cells .entry)) (now (places .entry)) (now (firsts .entry)) map (now (store .entry))
-        (now (out .entry)))
-        (reachedAt budget r (now (cells .exit)) (now (places .exit)) (now (firsts .exit)) map (now (store .exit))
-        (now (out .exit)))) ⌝ }
+        (reachedAt budget reached (now (words .entry)) (now (cells .entry)) (now (places .entry)) (now (firsts .entry)) map
+        (now (store .entry)) (now (out .entry)))
+        (reachedAt budget r (now (words .exit)) (now (cells .exit)) (now (places .exit)) (now (firsts .exit)) map
+        (now (store .exit)) (now (out .exit)))) ⌝ }
     ensures most { λ r. ⌜ r .progress .steps - reached .progress .steps ≤ budget - reached .progress .steps ⌝ }
     ensures spent { λ r. ⌜ (r .progress .steps ≤ reached .progress .steps
         → NoneSpent (r .progress .depth) (now (cells .exit)) (now (places .exit)) (now (store .exit))) ⌝ }
@@ -36,5 +37,5 @@ pub fn run(
     let free = out.len() - progress.written;
     let coded = run_coded(progress, budget, free, cells, places, firsts, store, piece);
     let reached = with_progress(reached, coded);
-    run_drawn(reached, budget, cells, places, store, piece, out)
+    run_drawn(reached, budget, words, cells, places, store, piece, out)
 }

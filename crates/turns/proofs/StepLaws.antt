@@ -15,6 +15,7 @@ use Rattle.rules.specs.declared.Answer.{Answer}
 use Rattle.rules.specs.declared.Answer.the-variants.{Refused}
 use Rattle.rules.specs.declared.Sets.{Sets}
 use Rattle.rules.specs.declared.Status.the-variants.{Running}
+use Rattle.rules.specs.declared.Text.{Text}
 use Rattle.rules.specs.declared.Waiting.{Waiting}
 use Rattle.rules.specs.Numbers.{mostDepth, roomForStep}
 use Rattle.rules.specs.Store.{firstOf}
@@ -25,12 +26,14 @@ use Rattle.rules.specs.Turn.{onMove}
 use Rattle.rules.specs.Reading.{consumedBy}
 use Rattle.rules.specs.Step.{State, withBodies, Move, onOutcome, call, onReaction, opensInside, interpret}
 use Rattle.rules.proofs.Bools.{true-false, false-true}
+use Rattle.text.specs.Tips.{penOf}
+use Rattle.text.specs.declared.tips.Tip.{Tip}
 use Rattle.records.proofs.Writes.{overwrite-none}
 use Rattle.figures.specs.declared.Drawn.{Drawn}
 use Rattle.figures.specs.Carried.{Carried, carry, drawingOf, carriedOf}
 use Rattle.drawing.proofs.Refusals.{OnlyVertices, act-vertices}
 use Rattle.bodies.specs.Stack.{bodiesOf}
-use Rattle.coding.specs.View.{codingOf, effectOn, reactionOf, AsLent}
+use Rattle.coding.specs.View.{codingOf, effectOn, reactionOf, AsLent, setsAfter}
 use Rattle.coding.specs.declared.reactions.Effect.{Effect}
 use Rattle.coding.specs.declared.reactions.Effect.the-variants.{Refuses, Calls, Acts}
 use Rattle.coding.specs.declared.reactions.Reacted.{Reacted}
@@ -41,7 +44,7 @@ use Rattle.turns.specs.declared.progress.Progress.{Progress}
 use Rattle.turns.specs.declared.step.Turned.{Turned}
 use Rattle.turns.specs.Leaving.{sourceAt, readOn, stepBy, interpreted, Left, leaves}
 use Rattle.turns.specs.Progress.{stepsTo, writtenTo}
-use Rattle.turns.specs.View.{stateAt, codingAfter, answered, leftBy, leftOf, DrawDueBy, DrawDue, RoomBy, Ready, readOnIf}
+use Rattle.turns.specs.View.{stateAt, codingAfter, answered, leftBy, leftOf, DrawDueBy, DrawDue, RoomBy, Ready, readOnIf, textIf}
 
 -- 6 is for a byte from a body
 pub inside-none : (d : ℕ) (x : Waiting) (b : ℕ) → d ≡ 0 → false ≡ opensInside (sourceAt d) x b
@@ -68,6 +71,24 @@ on-refused d x y h = rw h
 
 pub on-drawn : {t : Bool} (d : ℕ) (x : Cursor) (y z : Bodies) → t ≡ false → z ≡ readOn d x y → z ≡ readOnIf t d x y
 on-drawn d x y z h e = rw h e
+
+-- A call and an idle action leave the sets
+pub call-sets : (e : Effect) (n : ℕ) (s : Sets) → e ≡ Calls n → s ≡ setsAfter e s
+call-sets e n s h = rw h
+
+pub idle-sets : (e : Effect) (a : Action) (s : Sets) → e ≡ Acts a → a ≡ Idle → s ≡ setsAfter e s
+idle-sets e a s h k = rw (h, k)
+
+-- The text, alike
+pub text-kept : {b : Bool} (t u : Text) → b ≡ true → t ≡ textIf b t u
+text-kept t u h = rw h
+
+pub text-drawn : {b : Bool} (t u v : Text) → b ≡ false → v ≡ u → v ≡ textIf b t u
+text-drawn t u v h e = rw h e
+
+-- The pen that is put together
+pub pen-together : (t u : Text) (x : Tip) {p : Pen} → p ≡ penOf u x → u ≡ t → p ≡ penOf t x
+pen-together t u x e f = e ∙ ap (λ (v : Text). penOf v x) f
 
 on-depth : (d : ℕ) (x : Cursor) (y : Bodies) → y .depth ≡ d → readOn d x y .depth ≡ d
 on-depth zero x y h = h

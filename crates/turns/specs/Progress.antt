@@ -4,6 +4,7 @@ use Rattle.rules.specs.declared.Sets.{Sets}
 use Rattle.rules.specs.declared.Waiting.{Waiting}
 use Rattle.rules.specs.declared.Session.{Session}
 use Rattle.figures.specs.declared.Drawn.{Drawn}
+use Rattle.text.specs.Tips.{tipOf}
 use Rattle.turns.specs.declared.progress.Progress.{Progress}
 use Rattle.turns.specs.declared.progress.Reached.{Reached}
 
@@ -20,7 +21,7 @@ startOf s =
             sets = s .coding .sets;
             waiting = s .coding .waiting;
           };
-      pen = s .drawing .pen;
+      tip = tipOf (s .drawing .pen);
       command = s .drawing .command;
       look = s .drawing .look;
     }
@@ -78,4 +79,4 @@ codedOn n d s x p =
 
 -- With an action drawn
 abbrev pub drawnTo : Drawn → Progress → Reached
-drawnTo r p = record { progress = writtenTo (r .at) p; pen = r .pen; command = r .command; look = r .look }
+drawnTo r p = record { progress = writtenTo (r .at) p; tip = tipOf (r .pen); command = r .command; look = r .look }

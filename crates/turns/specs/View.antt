@@ -7,6 +7,7 @@ use Rattle.rules.specs.declared.Drawing.{Drawing}
 use Rattle.rules.specs.declared.Session.{Session}
 use Rattle.rules.specs.declared.Status.{Status}
 use Rattle.rules.specs.declared.Status.the-variants.{Running, Stopped}
+use Rattle.rules.specs.declared.Text.{Text}
 use Rattle.rules.specs.declared.Answer.{Answer}
 use Rattle.rules.specs.declared.Answer.the-variants.{Done, Full, Refused}
 use Rattle.rules.specs.Numbers.{roomForStep}
@@ -106,6 +107,11 @@ RoomBy (Draws a) n = roomForStep ≤ n
 abbrev pub readOnIf : Bool → ℕ → Cursor → Bodies → Bodies
 readOnIf true d x y = y
 readOnIf false d x y = readOn d x y
+
+-- and then the text is the one drawn
+abbrev pub textIf : Bool → Text → Text → Text
+textIf true t u = t
+textIf false t u = u
 
 -- What is asked of a step that is due: bodies to hold, a count to go up, and the place of the piece once its byte is read
 pub record Ready (p : Progress) (n : ℕ) : Type 0 where

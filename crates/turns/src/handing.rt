@@ -8,7 +8,11 @@ use rules::Drawing;
 use rules::Fed;
 use rules::Session;
 use rules::Status;
+use rules::Text;
+use text::tips::pen_of;
+use text::tips::tip_of;
 ghost use mathlib.Core.Path.{_≡_};
+ghost use Rattle.text.specs.Tips.{penOf};
 ghost use Rattle.figures.specs.Carried.{drawingOf};
 ghost use Rattle.turns.specs.Progress.{startOf};
 ghost use Rattle.turns.specs.View.{statusAfter, sessionAfter};
@@ -23,7 +27,7 @@ pub fn start(session: Session) -> Reached
     let sets = coding.sets;
     let waiting = coding.waiting;
     let drawing = session.drawing;
-    let pen = drawing.pen;
+    let tip = tip_of(drawing.pen);
     let command = drawing.command;
     let look = drawing.look;
     let progress = Progress {
@@ -36,7 +40,7 @@ pub fn start(session: Session) -> Reached
     };
     Reached {
         progress,
-        pen,
+        tip,
         command,
         look,
     }
@@ -57,6 +61,7 @@ pub fn finish(
     answer: Answer,
     budget: u32,
     reached: Reached,
+    text: Text,
     cells: [u8; 8],
     places: [u8; 8],
     firsts: [u8; 96],
@@ -65,10 +70,10 @@ pub fn finish(
     ensures { λ r. ⌜ r
         ≡ fedOf answer (reached .progress)
         (sessionAfter answer budget (reached .progress) cells places firsts
-        (drawingOf (reached .pen) (reached .command) (reached .look) map)) ⌝ }
+        (drawingOf (penOf text (reached .tip)) (reached .command) (reached .look) map)) ⌝ }
 {
     let progress = reached.progress;
-    let pen = reached.pen;
+    let pen = pen_of(text, reached.tip);
     let command = reached.command;
     let look = reached.look;
     let sets = progress.sets;

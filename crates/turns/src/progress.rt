@@ -1,15 +1,13 @@
 // How far a reading has come, and each way in which it goes on.
-use coding::reactions::Reacted;
-use coding::reactions::sets_after;
 use figures::Drawn;
 use rules::Command;
 use rules::Look;
-use rules::Pen;
 use rules::Sets;
 use rules::Waiting;
+use text::tips::Tip;
+use text::tips::tip_of;
 ghost use mathlib.Core.Path.{_≡_};
 ghost use Prim.Native.Nat.{_+_, _≤_, _<_};
-ghost use Rattle.coding.specs.View.{setsAfter};
 ghost use Rattle.turns.specs.Progress.{stepsTo, atDepth, codedOn, placeAfter, ranOn, drawnTo};
 
 // Where a reading stands between two steps. The drawing state and the arrays of the state are lent beside it.
@@ -22,10 +20,10 @@ pub struct Progress {
     pub depth: u8,
 }
 
-// The same with the drawing state, but for its map.
+// The same with the drawing state, but for its map, and with its pen apart from the text.
 pub struct Reached {
     pub progress: Progress,
-    pub pen: Pen,
+    pub tip: Tip,
     pub command: Command,
     pub look: Look,
 }
@@ -40,13 +38,16 @@ pub fn at_depth(progress: Progress, depth: u8) -> Progress
 }
 
 // How an accepted step leaves the progress: it counts.
-pub(crate) fn counted(progress: Progress, at: usize, depth: u8, reacted: Reacted) -> Progress
+pub(crate) fn counted(
+    progress: Progress,
+    at: usize,
+    depth: u8,
+    sets: Sets,
+    waiting: Waiting,
+) -> Progress
     requires { ⌜ progress .steps < 4294967295 ⌝ }
-    ensures { λ r. ⌜ r ≡ stepsTo at depth (setsAfter (reacted .effect) (progress .sets)) (reacted .waiting) progress ⌝ }
+    ensures { λ r. ⌜ r ≡ stepsTo at depth sets waiting progress ⌝ }
 {
-    let effect = reacted.effect;
-    let sets = sets_after(effect, progress.sets);
-    let waiting = reacted.waiting;
     Progress {
         at,
         written: progress.written,
@@ -96,14 +97,14 @@ pub fn after_run(progress: Progress, count: usize, written: usize) -> Progress
 // A step is accepted that asks nothing of drawing.
 pub fn with_progress(reached: Reached, progress: Progress) -> Reached
     ensures { λ r. ⌜ r
-        ≡ record { progress = progress; pen = reached .pen; command = reached .command; look = reached .look } ⌝ }
+        ≡ record { progress = progress; tip = reached .tip; command = reached .command; look = reached .look } ⌝ }
 {
-    let pen = reached.pen;
+    let tip = reached.tip;
     let command = reached.command;
     let look = reached.look;
     Reached {
         progress,
-        pen,
+        tip,
         command,
         look,
     }
@@ -115,12 +116,12 @@ pub fn after_drawing(next: Progress, drawn: Drawn) -> Reached
 {
     let mut progress = next;
     progress.written = drawn.at;
-    let pen = drawn.pen;
+    let tip = tip_of(drawn.pen);
     let command = drawn.command;
     let look = drawn.look;
     Reached {
         progress,
-        pen,
+        tip,
         command,
         look,
     }

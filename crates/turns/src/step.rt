@@ -6,6 +6,7 @@ use bodies::set_body;
 use coding::react;
 use coding::reactions::Effect;
 use coding::reactions::Reacted;
+use coding::reactions::sets_after;
 use coding::set_read;
 use drawing::act;
 use figures::Drawn;
@@ -14,9 +15,13 @@ use rules::Answer;
 use rules::Cursor;
 use rules::MOST_DEPTH;
 use rules::Refusal;
+use rules::Sets;
 use rules::Waiting;
 use store::names::first_of;
 use tables::escapes::after_escape;
+use text::tips::pen_of;
+use text::words::put_text;
+use text::words::text_of;
 ghost use mathlib.Core.Path.{_≡_};
 ghost use mathlib.Core.Bool.{true};
 ghost use mathlib.Core.List.{List};
@@ -27,11 +32,14 @@ ghost use Rattle.rules.specs.declared.Drawing.{Drawing};
 ghost use Rattle.rules.specs.Drawing.{act};
 ghost use Rattle.rules.specs.Ranges.{waitingFits, drawingFits};
 ghost use Rattle.rules.specs.Step.{onOutcome, call, opensInside};
+ghost use Rattle.text.specs.Tips.{penOf};
+ghost use Rattle.text.specs.Words.{textFrom};
 ghost use Rattle.store.specs.Lent.{Sized, IsName};
+ghost use Rattle.coding.specs.View.{setsAfter};
 ghost use Rattle.figures.specs.Carried.{carryOut, drawingOf, carriedOf};
 ghost use Rattle.bodies.specs.Stack.{bodiesOf};
 ghost use Rattle.turns.specs.Leaving.{sourceAt, readOn, stepBy, interpreted, leaves};
-ghost use Rattle.turns.specs.View.{stateAt, codingAfter, leftOf, DrawDue, Ready, readOnIf};
+ghost use Rattle.turns.specs.View.{stateAt, codingAfter, leftOf, DrawDue, Ready, readOnIf, textIf};
 
 // Where reading goes on once a byte is read: in the piece, and in the innermost body.
 pub struct Onward {
@@ -96,7 +104,7 @@ fn call(
     places: &mut [u8; 8],
     firsts: &[u8; 96],
 ) -> Turned
-    requires { ⌜ (Ready progress (onward .at)) × (IsName name) ⌝ }
+    requires { ⌜ (Ready progress (onward .at)) × (IsName name) × (reacted .effect ≡ Effect.Calls name) ⌝ }
     ensures left { λ r. ⌜ ((budget : ℕ) (d : Drawing) (st out : List ℕ)
         → leftOf budget progress r (now (cells .exit)) (now (places .exit)) (now (firsts .entry)) d st out
         ≡ leaves
@@ -113,22 +121,25 @@ fn call(
     read_on(cells, places, depth, cursor);
     let cell = first_of(firsts, name);
     set_body(cells, places, depth, Cursor { cell, place: 0 });
+    let sets = progress.sets;
+    let waiting = reacted.waiting;
     Turned {
         course: Course::GoesOn,
-        progress: counted(progress, onward.at, depth + 1, reacted),
+        progress: counted(progress, onward.at, depth + 1, sets, waiting),
         cursor: NOWHERE,
     }
 }
 
-// Nothing is asked of drawing.
+// Nothing is asked of drawing. The sets are those after the byte.
 fn idle(
     progress: Progress,
     onward: Onward,
+    sets: Sets,
     reacted: Reacted,
     cells: &mut [u8; 8],
     places: &mut [u8; 8],
 ) -> Turned
-    requires { ⌜ Ready progress (onward .at) ⌝ }
+    requires { ⌜ (Ready progress (onward .at)) × (sets ≡ setsAfter (reacted .effect) (progress .sets)) ⌝ }
     ensures left { λ r. ⌜ ((budget : ℕ) (d : Drawing) (firsts st out : List ℕ)
         → leftOf budget progress r (now (cells .exit)) (now (places .exit)) firsts d st out
         ≡ leaves
@@ -141,9 +152,10 @@ fn idle(
     let depth = progress.depth;
     let cursor = onward.cursor;
     read_on(cells, places, depth, cursor);
+    let waiting = reacted.waiting;
     Turned {
         course: Course::GoesOn,
-        progress: counted(progress, onward.at, depth, reacted),
+        progress: counted(progress, onward.at, depth, sets, waiting),
         cursor: NOWHERE,
     }
 }
@@ -160,9 +172,12 @@ fn draws(progress: Progress, onward: Onward, action: Action, reacted: Reacted) -
     ensures due { λ r. ⌜ DrawDue progress r ⌝ }
 {
     let cursor = onward.cursor;
+    let effect = reacted.effect;
+    let sets = sets_after(effect, progress.sets);
+    let waiting = reacted.waiting;
     Turned {
         course: Course::Draws(action),
-        progress: counted(progress, onward.at, progress.depth, reacted),
+        progress: counted(progress, onward.at, progress.depth, sets, waiting),
         cursor,
     }
 }
@@ -175,7 +190,7 @@ fn ask(
     cells: &mut [u8; 8],
     places: &mut [u8; 8],
 ) -> Turned
-    requires { ⌜ Ready progress (onward .at) ⌝ }
+    requires { ⌜ (Ready progress (onward .at)) × (reacted .effect ≡ Effect.Acts action) ⌝ }
     ensures left { λ r. ⌜ ((budget : ℕ) (d : Drawing) (firsts st out : List ℕ)
         → leftOf budget progress r (now (cells .exit)) (now (places .exit)) firsts d st out
         ≡ leaves
@@ -185,7 +200,10 @@ fn ask(
     ensures due { λ r. ⌜ DrawDue progress r ⌝ }
 {
     match action {
-        Action::Idle => idle(progress, onward, reacted, cells, places),
+        Action::Idle => {
+            let sets = progress.sets;
+            idle(progress, onward, sets, reacted, cells, places)
+        }
         _ => draws(progress, onward, action, reacted),
     }
 }
@@ -222,8 +240,14 @@ pub(crate) fn interpret(
         Effect::Refuses(refusal) => ends(progress, Answer::Refused(refusal)),
         Effect::Calls(name) => call(progress, onward, name, reacted, cells, places, firsts),
         Effect::Acts(action) => ask(progress, onward, action, reacted, cells, places),
-        Effect::Uses(_) => idle(progress, onward, reacted, cells, places),
-        Effect::Designates(_, _) => idle(progress, onward, reacted, cells, places),
+        Effect::Uses(_) => {
+            let sets = sets_after(effect, sets);
+            idle(progress, onward, sets, reacted, cells, places)
+        }
+        Effect::Designates(_, _) => {
+            let sets = sets_after(effect, sets);
+            idle(progress, onward, sets, reacted, cells, places)
+        }
     }
 }
 
@@ -232,35 +256,33 @@ pub fn draw(
     action: Action,
     cursor: Cursor,
     reached: Reached,
+    words: &mut [u32; 9],
     cells: &mut [u8; 8],
     places: &mut [u8; 8],
     map: &mut [u8; 48],
     out: &mut [u8],
 ) -> Drawn
     requires { ⌜ (reached .progress .depth ≤ 8)
-        × (drawingFits (drawingOf (reached .pen) (reached .command) (reached .look) (now map)) ≡ true)
+        × (drawingFits (drawingOf (penOf (textFrom (now words)) (reached .tip)) (reached .command) (reached .look) (now map)) ≡ true)
         × (reached .progress .written + roomForStep ≤ length (now out)) ⌝ }
     ensures drawn { λ r. ⌜ carriedOf r (now (map .exit)) (now (out .exit))
-        ≡ carryOut (act action) (drawingOf (reached .pen) (reached .command) (reached .look) (now (map .entry)))
+        ≡ carryOut (act action)
+        (drawingOf (penOf (textFrom (now (words .entry))) (reached .tip)) (reached .command) (reached .look) (now (map .entry)))
         (reached .progress .written) (now (out .entry)) ⌝ }
+    ensures text { λ r. ⌜ textFrom (now (words .exit)) ≡ textIf (r .«too_many_vertices») (textFrom (now (words .entry))) (r .pen .text) ⌝ }
     ensures bodies { λ r. ⌜ bodiesOf (reached .progress .depth) (now (cells .exit)) (now (places .exit))
         ≡ readOnIf (r .«too_many_vertices») (reached .progress .depth) cursor
         (bodiesOf (reached .progress .depth) (now (cells .entry)) (now (places .entry))) ⌝ }
 {
     let progress = reached.progress;
     let at = progress.written;
-    let drawn = act(
-        action,
-        reached.pen,
-        reached.command,
-        reached.look,
-        map,
-        out,
-        at,
-    );
+    let pen = pen_of(text_of(words), reached.tip);
+    let drawn = act(action, pen, reached.command, reached.look, map, out, at);
     if drawn.too_many_vertices {
         return drawn;
     }
+    let pen = drawn.pen;
+    put_text(words, pen.text);
     read_on(cells, places, progress.depth, cursor);
     drawn
 }

@@ -1,6 +1,6 @@
-use Rattle.drawing_runs.specs.Prelude.{_-_, arith, now, needs}
-use Rattle.drawing_runs.specs.Run.{standing}
-use Rattle.drawing_runs.proofs.CharacterLaws.{ran-none, ran-some}
+use Rattle.drawing_runs.specs.Prelude.{_-_, arith, now}
+use Rattle.drawing_runs.proofs.CharacterLaws.{puts-run, ran-none, ran-some}
+use borrow.Author.Needs.{needs}
 use Rattle.drawing_runs.proofs.characters.run_text.Statement.{statement}
 use Rattle.drawing_runs.proofs.characters.run_text.Tie as tie
 
@@ -13,40 +13,43 @@ sub-most-steps-2 c = search needs
 most-steps-requires : tie.Need-most-steps-requires
 most-steps-requires c κs = search needs
 
-put-characters-requires : tie.Need-put-characters-requires
-put-characters-requires c κs =
-    let pre· = c .before .before .before .before .pre in
-    let most-steps· = c .before .most-steps in
-    (pre· .0, omega (arith, most-steps· .ensures .0), λ n h. let g = most-steps· .ensures .1 n h in omega arith)
+common-of-requires : tie.Need-common-of-requires
+common-of-requires c κs = search needs
+
+put-text-requires : tie.Need-put-text-requires
+put-text-requires c κs =
+    let most-steps· = c .before .before .most-steps in
+    (omega (arith, most-steps· .ensures .0), λ n h. let g = most-steps· .ensures .1 n h in omega arith)
 
 same-length : tie.Need-same-length
 same-length c = search needs
 
 returns : tie.Need-returns
 returns c =
-    let args· = c .before .before .before .before .before .before .before .before .args in
     let if1· = c .if1 in
-    let put-characters· = c .before .before .before .put-characters in
-    let most-steps· = c .before .before .before .before .before .most-steps in
-    let pre· = c .before .before .before .before .before .before .before .before .pre in
-    (λ m. ran-none {y = standing (args· .pen) (args· .command) (args· .look) m (args· .at) (now (args· .out))} _ _ _ _ _ m _ _ (if1· .taken) (put-characters· .ensures .1 .1) (put-characters· .ensures .0 m), omega (arith, most-steps· .ensures .0, put-characters· .ensures .1 .0, pre· .1))
+    let args· = c .before .before .before .before .before .before .before .before .before .args in
+    let common-of· = c .before .before .before .before .before .common-of in
+    let put-text· = c .before .before .before .put-text in
+    let pre· = c .before .before .before .before .before .before .before .before .before .pre in
+    let most-steps· = c .before .before .before .before .before .before .most-steps in
+    (λ m. ran-none _ _ _ _ _ m _ _ _ (if1· .taken) (puts-run (args· .set) (common-of· .result) (args· .look) (now (args· .bytes)) (args· .from) (args· .at) (args· .pen) (put-text· .result .pen) _ _ (put-text· .result .count) (args· .command) (common-of· .ensures .0) (common-of· .ensures .1) (pre· .0) (put-text· .ensures .0) m), omega (arith, most-steps· .ensures .0, put-text· .ensures .1, pre· .1))
 
-mul-t13 : tie.Need-mul-t13
-mul-t13 c =
-    let most-steps· = c .before .before .before .before .before .most-steps in
-    let put-characters· = c .before .before .before .put-characters in
+mul-t14 : tie.Need-mul-t14
+mul-t14 c =
+    let most-steps· = c .before .before .before .before .before .before .most-steps in
+    let put-text· = c .before .before .before .put-text in
     let if1· = c .if1 in
-    let good· = c .before .before .before .before .before .before .before .before .good in
-    let g = most-steps· .ensures .1 (put-characters· .result .count - 1) (omega (arith, put-characters· .ensures .1 .0, if1· .left)) in
+    let good· = c .before .before .before .before .before .before .before .before .before .good in
+    let g = most-steps· .ensures .1 (put-text· .result .count - 1) (omega (arith, put-text· .ensures .1, if1· .left)) in
     omega (arith, g, if1· .left, good·)
 
-add-t14 : tie.Need-add-t14
-add-t14 c =
-    let most-steps· = c .before .before .before .before .before .most-steps in
-    let put-characters· = c .before .before .before .put-characters in
+add-t15 : tie.Need-add-t15
+add-t15 c =
+    let most-steps· = c .before .before .before .before .before .before .most-steps in
+    let put-text· = c .before .before .before .put-text in
     let if1· = c .if1 in
-    let good· = c .before .before .before .before .before .before .before .before .good in
-    let g = most-steps· .ensures .1 (put-characters· .result .count - 1) (omega (arith, put-characters· .ensures .1 .0, if1· .left)) in
+    let good· = c .before .before .before .before .before .before .before .before .before .good in
+    let g = most-steps· .ensures .1 (put-text· .result .count - 1) (omega (arith, put-text· .ensures .1, if1· .left)) in
     omega (arith, g, if1· .left, good·)
 
 resting-requires : tie.Need-resting-requires
@@ -60,14 +63,15 @@ same-length-2 c = search needs
 
 returns-2 : tie.Need-returns-2
 returns-2 c =
-    let args· = c .before .before .before .before .before .before .before .before .before .before .args in
+    let args· = c .before .before .before .before .before .before .before .before .before .before .before .args in
     let if1· = c .before .before .if1 in
     let resting· = c .before .resting in
     let new-command· = c .new-command in
-    let put-characters· = c .before .before .before .before .before .put-characters in
-    let most-steps· = c .before .before .before .before .before .before .before .most-steps in
-    let pre· = c .before .before .before .before .before .before .before .before .before .before .pre in
-    (λ m. ran-some {y = standing (args· .pen) (args· .command) (args· .look) m (args· .at) (now (args· .out))} _ _ (args· .command) _ m _ _ (if1· .left) (resting· .ensures) (new-command· .ensures) (put-characters· .ensures .0 m), omega (arith, most-steps· .ensures .0, put-characters· .ensures .1 .0, pre· .1))
+    let common-of· = c .before .before .before .before .before .before .before .common-of in
+    let put-text· = c .before .before .before .before .before .put-text in
+    let pre· = c .before .before .before .before .before .before .before .before .before .before .before .pre in
+    let most-steps· = c .before .before .before .before .before .before .before .before .most-steps in
+    (λ m. ran-some _ _ (args· .command) _ m _ _ (if1· .left) (resting· .ensures) (new-command· .ensures) (puts-run (args· .set) (common-of· .result) (args· .look) (now (args· .bytes)) (args· .from) (args· .at) (args· .pen) (put-text· .result .pen) _ _ (put-text· .result .count) (args· .command) (common-of· .ensures .0) (common-of· .ensures .1) (pre· .0) (put-text· .ensures .0) m), omega (arith, most-steps· .ensures .0, put-text· .ensures .1, pre· .1))
 
 pub run-text-spec : {M : Type 1} → statement M
 run-text-spec =
@@ -76,11 +80,12 @@ run-text-spec =
     sub-most-steps
     sub-most-steps-2
     most-steps-requires
-    put-characters-requires
+    common-of-requires
+    put-text-requires
     same-length
     returns
-    mul-t13
-    add-t14
+    mul-t14
+    add-t15
     resting-requires
     new-command-requires
     same-length-2

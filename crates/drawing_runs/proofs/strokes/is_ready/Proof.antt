@@ -1,5 +1,6 @@
 use Rattle.drawing_runs.specs.Prelude.{needs, not-false}
 use Rattle.rules.proofs.Bools.{false-true}
+use Rattle.figures.specs.Tracing.{penAt}
 use Rattle.drawing_runs.proofs.StrokeLaws.{ready-told}
 use Rattle.drawing_runs.proofs.strokes.is_ready.Statement.{statement}
 use Rattle.drawing_runs.proofs.strokes.is_ready.Tie as tie
@@ -27,8 +28,8 @@ returns-3 c =
     let if2· = c .before .before .before .if2 in
     let has-three· = c .has-three in
     let good· = c .before .before .before .before .before .before .before .good in
-    let operand = good· .0 .1 .1 .1 .1 .0 in
-    λ h kind drawn. ready-told (args· .pen) (args· .command) (args· .look) (search (needs, operand)) (if1· .left) (is-first· .ensures (not-false (is-first· .result) (if2· .left))) _ (has-three· .ensures) h drawn
+    let operand = good· .0 in
+    λ h kind drawn p t. ready-told (penAt p t (args· .operand)) (args· .command) (args· .look) (search (needs, operand)) (if1· .left) (is-first· .ensures (not-false (is-first· .result) (if2· .left))) _ (has-three· .ensures) h drawn
 
 pub is-ready-spec : {M : Type 1} → statement M
 is-ready-spec =

@@ -1,7 +1,6 @@
+use Rattle.turn_runs.specs.Prelude.{arith, ap, needs}
 use Rattle.drawing_runs.specs.Run.{none}
-use Rattle.turn_runs.specs.Prelude.{arith, ap, _∙_, true, [], needs}
-use Rattle.drawing_runs.proofs.StrokeLaws.{after-begun}
-use Rattle.turn_runs.proofs.ProgressLaws.{run-still}
+use Rattle.turn_runs.proofs.DrewLaws.{passes-draws}
 use Rattle.turn_runs.proofs.drawn.draw_pdi.Statement.{statement}
 use Rattle.turn_runs.proofs.drawn.draw_pdi.Tie as tie
 
@@ -11,25 +10,24 @@ none-drawn-requires c κs = search needs
 returns : tie.Need-returns
 returns c =
     let none-drawn· = c .none-drawn in
-    let pre· = c .before .before .before .before .before .pre in
-    (λ m. rw (none-drawn· .ensures) none, omega (arith, ap (λ r. r .count) (none-drawn· .ensures), pre·))
+    let pre· = c .before .before .before .before .before .before .pre in
+    (λ t m. rw (none-drawn· .ensures) none, omega (arith, ap (λ r. r .count) (none-drawn· .ensures), pre·))
+
+pass-points-requires : tie.Need-pass-points-requires
+pass-points-requires c κs = search needs
+
+tip-after-requires : tie.Need-tip-after-requires
+tip-after-requires c κs = search needs
+
+same-length : tie.Need-same-length
+same-length c = search needs
 
 returns-2 : tie.Need-returns-2
 returns-2 c =
-    let resting· = c .resting in
     let args· = c .before .before .before .before .before .before .before .before .before .before .before .before .args in
-    let draw-strokes· = c .before .before .before .before .before .before .draw-strokes in
-    let if2· = c .before .before .if2 in
-    let follow· = c .before .follow in
-    (λ m. rw (resting· .ensures ∙ after-begun (args· .pen) _ true (draw-strokes· .result .point) _ (if2· .taken) (follow· .ensures)) (draw-strokes· .ensures .0 m), draw-strokes· .ensures .1)
-
-returns-3 : tie.Need-returns-3
-returns-3 c =
-    let draw-strokes· = c .before .before .before .before .before .before .before .before .draw-strokes in
-    let if2· = c .before .before .before .before .if2 in
-    let run-commands· = c .before .before .run-commands in
-    let still = run-still (draw-strokes· .ensures .0 []) (omega (arith, if2· .left)) in
-    (λ m. rw (← still .3) (run-commands· .ensures .0 m), run-commands· .ensures .1)
+    let pass-points· = c .before .before .before .before .pass-points in
+    let tip-after· = c .before .tip-after in
+    (passes-draws _ _ (args· .tip) _ _ (args· .look) _ _ (pass-points· .result) _ (pass-points· .ensures .0) (tip-after· .ensures), pass-points· .ensures .1)
 
 pub draw-pdi-spec : {M : Type 1} → statement M
 draw-pdi-spec =
@@ -37,11 +35,7 @@ draw-pdi-spec =
     (tie.spec
     none-drawn-requires
     returns
-    (λ c κs. search needs)
-    (λ c κs. search needs)
-    (λ c κs. search needs)
-    (λ c. search needs)
-    returns-2
-    (λ c κs. search needs)
-    (λ c. search needs)
-    returns-3)
+    pass-points-requires
+    tip-after-requires
+    same-length
+    returns-2)

@@ -28,14 +28,14 @@ returns : tie.Need-returns
 returns c =
     let enum-told· = c .before .before .before .before .enum-told in
     let draw-pdi· = c .before .before .draw-pdi in
-    (λ m. rw (enum-told· .given .1) (draw-pdi· .ensures .0 m), draw-pdi· .ensures .1)
+    (λ m. rw (enum-told· .given .1) (draw-pdi· .ensures .0 _ m), draw-pdi· .ensures .1)
 
 same-length-2 : tie.Need-same-length-2
 same-length-2 c = search needs
 
 returns-2 : tie.Need-returns-2
 returns-2 c =
-    let set· = c .before .before .before .before .before .set in
+    let set· = c .before .before .before .before .before .before .set in
     let draw-text· = c .before .before .draw-text in
     (λ m. rw (set· .given .1) (draw-text· .ensures .0 m), draw-text· .ensures .1)
 

@@ -1,5 +1,6 @@
-use Rattle.drawing_runs.specs.Run.{none}
 use Rattle.turn_runs.specs.Prelude.{arith, ap, needs}
+use Rattle.drawing_runs.specs.Run.{none}
+use Rattle.turn_runs.proofs.DrewLaws.{types-draws}
 use Rattle.turn_runs.proofs.drawn.draw_text.Statement.{statement}
 use Rattle.turn_runs.proofs.drawn.draw_text.Tie as tie
 
@@ -12,14 +13,36 @@ returns c =
     let pre· = c .before .before .before .before .before .pre in
     (λ m. rw (none-drawn· .ensures) none, omega (arith, ap (λ r. r .count) (none-drawn· .ensures), pre·))
 
+text-of-requires : tie.Need-text-of-requires
+text-of-requires c κs = search needs
+
+pen-of-requires : tie.Need-pen-of-requires
+pen-of-requires c κs = search needs
+
 run-text-requires : tie.Need-run-text-requires
 run-text-requires c κs = search needs
+
+put-text-requires : tie.Need-put-text-requires
+put-text-requires c κs = search needs
+
+tip-of-requires : tie.Need-tip-of-requires
+tip-of-requires c κs = search needs
 
 same-length : tie.Need-same-length
 same-length c = search needs
 
 returns-2 : tie.Need-returns-2
-returns-2 c = search needs
+returns-2 c =
+    let args· = c .before .before .before .before .before .before .before .before .before .before .before .before .before .before .before .before .args in
+    let run-text· = c .before .before .before .before .before .before .before .run-text in
+    let pen-of· = c .before .before .before .before .before .before .before .before .before .pen-of in
+    let text-of· = c .before .before .before .before .before .before .before .before .before .before .text-of in
+    let put-text· = c .before .before .put-text in
+    let tip-of· = c .before .tip-of in (
+      types-draws _ _ _ _ _ _ (args· .tip) _ _ _ (args· .look) _ _ (run-text· .result) _
+          (pen-of· .ensures) (text-of· .ensures) (put-text· .ensures) (tip-of· .ensures) (run-text· .ensures .0),
+      run-text· .ensures .1,
+    )
 
 pub draw-text-spec : {M : Type 1} → statement M
 draw-text-spec =
@@ -27,6 +50,10 @@ draw-text-spec =
     (tie.spec
     none-drawn-requires
     returns
+    text-of-requires
+    pen-of-requires
     run-text-requires
+    put-text-requires
+    tip-of-requires
     same-length
     returns-2)

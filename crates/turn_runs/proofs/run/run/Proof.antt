@@ -1,4 +1,6 @@
 use Rattle.turn_runs.specs.Prelude.{now, arith, refl, ap, ℕ, List, [], needs}
+use Rattle.text.specs.Tips.{penOf}
+use Rattle.text.specs.Words.{textFrom}
 use Rattle.turns.specs.declared.progress.Reached.{Reached}
 use Rattle.figures.specs.Carried.{drawingOf}
 use Rattle.rules.proofs.Steps.{valid-store, valid-depth}
@@ -23,11 +25,11 @@ with-progress-requires c κs = search needs
 
 run-drawn-requires : tie.Need-run-drawn-requires
 run-drawn-requires c κs =
-    let args· = c .before .before .before .before .before .before .before .before .before .before .before .before .before .before .before .before .before .args in
-    let run-coded· = c .before .before .before .before .before .before .before .run-coded in
-    let pre· = c .before .before .before .before .before .before .before .before .before .before .before .before .before .before .before .before .before .pre in
-    let with-progress· = c .before .before .before .before .with-progress in
-    let d = drawingOf (args· .reached .pen) (args· .reached .command) (args· .reached .look) [] in
+    let args· = c .before .before .before .before .before .before .before .before .before .before .before .before .before .before .before .before .before .before .args in
+    let run-coded· = c .before .before .before .before .before .before .before .before .run-coded in
+    let pre· = c .before .before .before .before .before .before .before .before .before .before .before .before .before .before .before .before .before .before .pre in
+    let with-progress· = c .before .before .before .before .before .with-progress in
+    let d = drawingOf (penOf (textFrom (now (args· .words))) (args· .reached .tip)) (args· .reached .command) (args· .reached .look) [] in
     let h = walk-stands (run-coded· .ensures .0 d (now (args· .out)) refl) (pre· []) in
     let v = h .sound in
     rw (with-progress· .ensures)
@@ -35,23 +37,23 @@ run-drawn-requires c κs =
 
 same-length : tie.Need-same-length
 same-length c =
-    let run-coded· = c .before .before .before .before .before .before .before .before .before .before .run-coded in
+    let run-coded· = c .before .before .before .before .before .before .before .before .before .before .before .run-coded in
     run-coded· .kept .1 .1 .1 .1 .1 .1 .0
 
 returns : tie.Need-returns
 returns c =
-    let with-progress· = c .before .before .before .before .before .before .before .with-progress in
-    let run-coded· = c .before .before .before .before .before .before .before .before .before .before .run-coded in
-    let args· = c .before .before .before .before .before .before .before .before .before .before .before .before .before .before .before .before .before .before .before .before .args in
+    let with-progress· = c .before .before .before .before .before .before .before .before .with-progress in
+    let run-coded· = c .before .before .before .before .before .before .before .before .before .before .before .run-coded in
+    let args· = c .before .before .before .before .before .before .before .before .before .before .before .before .before .before .before .before .before .before .before .before .before .args in
     let run-drawn· = c .before .before .run-drawn in
-    let pre· = c .before .before .before .before .before .before .before .before .before .before .before .before .before .before .before .before .before .before .before .before .pre in
+    let pre· = c .before .before .before .before .before .before .before .before .before .before .before .before .before .before .before .before .before .before .before .before .before .pre in
     let e = with-progress· .ensures in
     let steps = ap (λ (r : Reached). r .progress .steps) e in
-    let coded = run-coded· .ensures .0 (drawingOf (args· .reached .pen) (args· .reached .command) (args· .reached .look) []) (now (args· .out)) refl in
+    let coded = run-coded· .ensures .0 (drawingOf (penOf (textFrom (now (args· .words))) (args· .reached .tip)) (args· .reached .command) (args· .reached .look) []) (now (args· .out)) refl in
     let before = walk-steps coded (pre· []) in (
       λ map.
-          walk-then (run-coded· .ensures .0 (drawingOf (args· .reached .pen) (args· .reached .command) (args· .reached .look) map) (now (args· .out)) refl)
-          (walk-from e (run-drawn· .ensures .0 _ map)),
+          walk-then (run-coded· .ensures .0 (drawingOf (penOf (textFrom (now (args· .words))) (args· .reached .tip)) (args· .reached .command) (args· .reached .look) map) (now (args· .out)) refl)
+          (walk-from (now (args· .words)) e (run-drawn· .ensures .0 _ map)),
       (
         omega (arith, steps, run-drawn· .ensures .1 .0, run-coded· .ensures .1 .0, before),
         λ h.

@@ -1,4 +1,5 @@
 use Rattle.turns.specs.Prelude.{now, needs}
+use Rattle.turns.proofs.StepLaws.{idle-sets}
 use Rattle.turns.proofs.step.ask.Statement.{statement}
 use Rattle.turns.proofs.step.ask.Tie as tie
 
@@ -6,14 +7,17 @@ enum-told : tie.Need-enum-told
 enum-told c = search needs
 
 idle-requires : tie.Need-idle-requires
-idle-requires c κs = search needs
+idle-requires c κs =
+    let pre· = c .before .before .before .before .before .pre in
+    let enum-told· = c .before .before .before .enum-told in
+    (pre· .0, idle-sets _ _ _ (pre· .1) (enum-told· .given .1))
 
 draws-requires : tie.Need-draws-requires
 draws-requires c κs = search needs
 
 returns : tie.Need-returns
 returns c =
-    let enum-told· = c .before .before .before .enum-told in
+    let enum-told· = c .before .before .before .before .enum-told in
     let idle· = c .idle in
     (λ budget d firsts st out. rw (enum-told· .given .1) (idle· .ensures .0 budget d firsts st out), idle· .ensures .1)
 

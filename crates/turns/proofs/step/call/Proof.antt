@@ -1,6 +1,8 @@
+use Rattle.rules.specs.declared.Sets.{Sets}
+use Rattle.turns.specs.Progress.{stepsTo}
 use Rattle.coding.specs.View.{setsAfter}
-use Rattle.turns.proofs.StepLaws.{ends-due, call-deep, call-goes}
-use Rattle.turns.specs.Prelude.{now, needs}
+use Rattle.turns.proofs.StepLaws.{ends-due, call-deep, call-goes, call-sets}
+use Rattle.turns.specs.Prelude.{_+_, ap, _∙_, now, needs}
 use Rattle.turns.proofs.step.call.Statement.{statement}
 use Rattle.turns.proofs.step.call.Tie as tie
 
@@ -30,19 +32,19 @@ add-counted c = search needs
 
 counted-requires : tie.Need-counted-requires
 counted-requires c κs =
-    let pre· = c .before .before .before .before .before .before .before .before .before .pre in
+    let pre· = c .before .before .before .before .before .before .before .before .before .before .pre in
     pre· .0 .steps
 
 returns-2 : tie.Need-returns-2
 returns-2 c =
-    let args· = c .before .before .before .before .before .before .before .before .before .before .args in
-    let read-on· = c .before .before .before .before .before .read-on in
-    let set-body· = c .before .set-body in
-    let first-of· = c .before .before .before .before .first-of in
-    let if1· = c .before .before .before .before .before .before .before .before .before .if1 in
-    let pre· = c .before .before .before .before .before .before .before .before .before .before .pre in
+    let args· = c .before .before .before .before .before .before .before .before .before .before .before .args in
+    let read-on· = c .before .before .before .before .before .before .read-on in
+    let set-body· = c .before .before .set-body in
+    let first-of· = c .before .before .before .before .before .first-of in
+    let if1· = c .before .before .before .before .before .before .before .before .before .before .if1 in
+    let pre· = c .before .before .before .before .before .before .before .before .before .before .before .pre in
     let counted· = c .counted in (
-      λ budget d st out. call-goes budget (args· .progress) (now (args· .cells)) (now (args· .places)) (now (args· .firsts)) d st out (args· .onward .cursor) (args· .name) (setsAfter (args· .reacted .effect) (args· .progress .sets)) (args· .reacted .waiting) (read-on· .last .0) (read-on· .last .1 .0) (set-body· .last .0) (set-body· .last .1 .0) (first-of· .result) (args· .onward .at) (if1· .left) (read-on· .ensures) (first-of· .ensures) (set-body· .ensures) (pre· .0 .after) (counted· .result) (counted· .ensures),
+      λ budget d st out. call-goes budget (args· .progress) (now (args· .cells)) (now (args· .places)) (now (args· .firsts)) d st out (args· .onward .cursor) (args· .name) (setsAfter (args· .reacted .effect) (args· .progress .sets)) (args· .reacted .waiting) (read-on· .last .0) (read-on· .last .1 .0) (set-body· .last .0) (set-body· .last .1 .0) (first-of· .result) (args· .onward .at) (if1· .left) (read-on· .ensures) (first-of· .ensures) (set-body· .ensures) (pre· .0 .after) (counted· .result) (counted· .ensures ∙ ap (λ (s : Sets). stepsTo (args· .onward .at) (args· .progress .depth + 1) s (args· .reacted .waiting) (args· .progress)) (call-sets _ _ _ (pre· .2))),
       tt,
     )
 

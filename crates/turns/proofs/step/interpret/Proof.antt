@@ -41,13 +41,16 @@ call-requires c κs =
     let react· = c .before .before .before .before .before .before .before .before .react in
     let effect2· = c .before .before .before .before .effect2 in
     let set-read· = c .before .before .before .before .before .before .before .before .before .before .before .set-read in
-    (pre· .0, call-name (codingOf (args· .progress .sets) (args· .progress .waiting) (now (args· .firsts))) (now (args· .store)) (args· .byte) (react· .result) (react· .last .1 .1 .0) (react· .last .1 .1 .1 .0) (react· .ensures .0 _ (set-read· .ensures)) (effect2· .given .0 .0) (effect2· .given .1) .1)
+    (pre· .0, call-name (codingOf (args· .progress .sets) (args· .progress .waiting) (now (args· .firsts))) (now (args· .store)) (args· .byte) (react· .result) (react· .last .1 .1 .0) (react· .last .1 .1 .1 .0) (react· .ensures .0 _ (set-read· .ensures)) (effect2· .given .0 .0) (effect2· .given .1) .1, effect2· .given .1)
 
 enum-known-effect-3 : tie.Need-enum-known-effect-3
 enum-known-effect-3 c = search needs
 
 ask-requires : tie.Need-ask-requires
-ask-requires c κs = search needs
+ask-requires c κs =
+    let pre· = c .before .before .before .before .before .before .before .before .before .before .before .before .before .before .before .pre in
+    let effect3· = c .before .before .before .effect3 in
+    (pre· .0, effect3· .given .1)
 
 enum-told : tie.Need-enum-told
 enum-told c = search needs
@@ -114,14 +117,14 @@ same-length-4 c = search needs
 
 returns-5 : tie.Need-returns-5
 returns-5 c =
-    let args· = c .before .before .before .before .before .before .before .before .before .before .before .before .before .before .before .args in
-    let opens-inside· = c .before .before .before .before .before .before .before .before .before .before .before .before .opens-inside in
-    let if1· = c .before .before .before .before .before .before .before .before .before .before .before .if1 in
-    let react· = c .before .before .before .before .before .before .before .react in
-    let enum-told· = c .before .before .before .enum-told in
+    let args· = c .before .before .before .before .before .before .before .before .before .before .before .before .before .before .before .before .args in
+    let opens-inside· = c .before .before .before .before .before .before .before .before .before .before .before .before .before .opens-inside in
+    let if1· = c .before .before .before .before .before .before .before .before .before .before .before .before .if1 in
+    let react· = c .before .before .before .before .before .before .before .before .react in
+    let enum-told· = c .before .before .before .before .enum-told in
     let idle· = c .idle in
-    let set-read· = c .before .before .before .before .before .before .before .before .before .before .set-read in (
-      λ budget d out. byte-idle budget (args· .progress) (now (args· .cells)) (now (args· .places)) (now (args· .firsts)) d (now (args· .store)) out (args· .onward .cursor) (args· .byte) (sym (opens-inside· .ensures) ∙ if1· .left) (react· .result) (react· .last .1 .1 .0) (react· .last .1 .1 .1 .0) (react· .ensures .0 _ (set-read· .ensures)) _ (enum-told· .given .1) refl (leftOf budget (args· .progress) (idle· .result) (idle· .last .1 .1 .1 .0) (idle· .last .1 .1 .1 .1 .0) (react· .last .1 .1 .0) d (react· .last .1 .1 .1 .0) out) (idle· .ensures .0 budget d (react· .last .1 .1 .0) (react· .last .1 .1 .1 .0) out),
+    let set-read· = c .before .before .before .before .before .before .before .before .before .before .before .set-read in (
+      λ budget d out. byte-idle budget (args· .progress) (now (args· .cells)) (now (args· .places)) (now (args· .firsts)) d (now (args· .store)) out (args· .onward .cursor) (args· .byte) (sym (opens-inside· .ensures) ∙ if1· .left) (react· .result) (react· .last .1 .1 .0) (react· .last .1 .1 .1 .0) (react· .ensures .0 _ (set-read· .ensures)) _ (enum-told· .given .1) refl (leftOf budget (args· .progress) (idle· .result) (idle· .last .1 .1 .1 .1 .0) (idle· .last .1 .1 .1 .1 .1 .0) (react· .last .1 .1 .0) d (react· .last .1 .1 .1 .0) out) (idle· .ensures .0 budget d (react· .last .1 .1 .0) (react· .last .1 .1 .1 .0) out),
       idle· .ensures .1,
     )
 
@@ -130,14 +133,14 @@ same-length-5 c = search needs
 
 returns-6 : tie.Need-returns-6
 returns-6 c =
-    let args· = c .before .before .before .before .before .before .before .before .before .before .before .before .before .before .before .args in
-    let opens-inside· = c .before .before .before .before .before .before .before .before .before .before .before .before .opens-inside in
-    let if1· = c .before .before .before .before .before .before .before .before .before .before .before .if1 in
-    let react· = c .before .before .before .before .before .before .before .react in
-    let enum-told2· = c .before .before .before .enum-told2 in
+    let args· = c .before .before .before .before .before .before .before .before .before .before .before .before .before .before .before .before .args in
+    let opens-inside· = c .before .before .before .before .before .before .before .before .before .before .before .before .before .opens-inside in
+    let if1· = c .before .before .before .before .before .before .before .before .before .before .before .before .if1 in
+    let react· = c .before .before .before .before .before .before .before .before .react in
+    let enum-told2· = c .before .before .before .before .enum-told2 in
     let idle2· = c .idle2 in
-    let set-read· = c .before .before .before .before .before .before .before .before .before .before .set-read in (
-      λ budget d out. byte-idle budget (args· .progress) (now (args· .cells)) (now (args· .places)) (now (args· .firsts)) d (now (args· .store)) out (args· .onward .cursor) (args· .byte) (sym (opens-inside· .ensures) ∙ if1· .left) (react· .result) (react· .last .1 .1 .0) (react· .last .1 .1 .1 .0) (react· .ensures .0 _ (set-read· .ensures)) _ (enum-told2· .given .1) refl (leftOf budget (args· .progress) (idle2· .result) (idle2· .last .1 .1 .1 .0) (idle2· .last .1 .1 .1 .1 .0) (react· .last .1 .1 .0) d (react· .last .1 .1 .1 .0) out) (idle2· .ensures .0 budget d (react· .last .1 .1 .0) (react· .last .1 .1 .1 .0) out),
+    let set-read· = c .before .before .before .before .before .before .before .before .before .before .before .set-read in (
+      λ budget d out. byte-idle budget (args· .progress) (now (args· .cells)) (now (args· .places)) (now (args· .firsts)) d (now (args· .store)) out (args· .onward .cursor) (args· .byte) (sym (opens-inside· .ensures) ∙ if1· .left) (react· .result) (react· .last .1 .1 .0) (react· .last .1 .1 .1 .0) (react· .ensures .0 _ (set-read· .ensures)) _ (enum-told2· .given .1) refl (leftOf budget (args· .progress) (idle2· .result) (idle2· .last .1 .1 .1 .1 .0) (idle2· .last .1 .1 .1 .1 .1 .0) (react· .last .1 .1 .0) d (react· .last .1 .1 .1 .0) out) (idle2· .ensures .0 budget d (react· .last .1 .1 .0) (react· .last .1 .1 .1 .0) out),
       idle2· .ensures .1,
     )
 
@@ -157,8 +160,10 @@ interpret-spec =
     enum-known-effect-3
     ask-requires
     enum-told
+    (λ c κs. search needs)
     idle-requires
     enum-told-2
+    (λ c κs. search needs)
     idle-requires-2
     same-length
     returns-2
