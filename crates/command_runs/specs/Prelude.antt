@@ -8,4 +8,4 @@ pub use native.Mathlib.Omega.{arith}
 pub use lib.ListN.{length, take, drop, getD}
 pub use lib.Dec.{ltb, leb}
 pub use borrow.Author.Tests.{lt-ltb, le-ltb, leb-true, ltb-true, not-false}
-pub use borrow.Author.Needs.{needs, length-unmapped}
+pub use borrow.Author.Needs.{needs}

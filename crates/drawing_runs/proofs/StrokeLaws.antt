@@ -50,11 +50,6 @@ after-moved zero k w p old q = refl
 after-moved (suc n) k true p old q = ap rested (follow-follow q old p)
 after-moved (suc n) k false p old q = refl
 
--- After some bytes no operand is begun
-pub after-begun : (p : Pen) (n : ℕ) (w : Bool) (q : Point) (y : Pen) → 1 ≤ n → y ≡ movedIf w q p → rested y ≡ penAfter n w p q
-after-begun p zero w q y h e = absurd (omega arith)
-after-begun p (suc n) w q y h e = ap rested e
-
 after-point : (n : ℕ) (p : Pen) (old q : Point) → rested (follow q (penAfter n true p old)) ≡ penAfter (n + 3) true p q
 after-point n p old q =
     let next : suc (n + 2) ≡ n + 3 = omega arith in

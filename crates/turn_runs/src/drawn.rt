@@ -82,7 +82,7 @@ fn tip_after(count: usize, moved: bool, point: Point, tip: Tip) -> Tip
     }
 }
 
-// Whole commands, or none where many points of one stroke come: their loop is the shortest.
+// Many points of one stroke, whose loop is the shortest, else whole commands.
 fn pass_points(
     point: Point,
     operand: Operand,
