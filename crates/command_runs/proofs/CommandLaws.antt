@@ -195,10 +195,3 @@ control-asked b h e = subst (ActsAs Pdi b) (sym (pick-yes (Control b) (Opcode b)
 
 pub opcode-asked : (b : ℕ) → 32 ≤ b → b < 64 → ActsAs Pdi b (asked b)
 opcode-asked b h k = subst (ActsAs Pdi b) (sym (pick-no (Control b) (Opcode b) (le-ltb b 32 h))) (opcode-acts b h (omega arith))
-
--- The bytes of a multi-value operand
-pub multi-range : (o : Domain) → domainFits o ≡ true → (1 ≤ o .multi) × (o .multi ≤ 8)
-unfolding domainFits
-multi-range o h =
-    let e = and-right (leb 1 (o .single) && leb (o .single) 4) (leb 1 (o .multi) && leb (o .multi) 8) h in
-    (leb-true 1 (o .multi) (and-left (leb 1 (o .multi)) (leb (o .multi) 8) e), leb-true (o .multi) 8 (and-right (leb 1 (o .multi)) (leb (o .multi) 8) e))

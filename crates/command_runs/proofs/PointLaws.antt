@@ -27,7 +27,7 @@ use Rattle.figures.specs.Tracing.{penAt, isPoint}
 use Rattle.figures.proofs.Carrying.{puts-carried}
 use Rattle.drawing_runs.specs.Run.{Run, standing}
 use Rattle.drawing_runs.specs.Strokes.{rested, penAfter}
-use Rattle.drawing_runs.proofs.RunLaws.{each-data, whole-operand}
+use Rattle.drawing_runs.proofs.RunLaws.{each-data, whole-operand, whole-tells}
 use Rattle.drawing_runs.proofs.StrokeLaws.{after-moved}
 use Rattle.command_runs.proofs.CommandLaws.{Reaches, Stands, after-fresh, after-eight, after-at}
 
@@ -51,27 +51,6 @@ point-length Foreground k o h = false-true h
 point-length Background k o h = false-true h
 point-length Shade k o h = false-true h
 point-length Dropped k o h = false-true h
-
--- An operand that is cut has no point
-pub cut-whole {ℓ} : {A : Type ℓ} {v : Point} → Cut ≡ Whole·point v → A
-cut-whole e = true-false (ap isCut e)
-  where
-    isCut : Whole → Bool
-    isCut Cut = true
-    isCut (Whole·point p) = false
-
--- A point was read: its bytes are data
-pub whole-tells : (three : Bool) (bs : List ℕ) (v : Point) → wholeOf three bs ≡ Whole·point v → (allData bs ≡ true) × (v ≡ point three bs)
-unfolding wholeOf
-whole-tells three bs v e = by (allData bs) refl e
-  where
-    pointOf : Whole → Point
-    pointOf Cut = v
-    pointOf (Whole·point p) = p
-
-    by : (t : Bool) → allData bs ≡ t → pick t (Whole·point (point three bs)) Cut ≡ Whole·point v → (allData bs ≡ true) × (v ≡ point three bs)
-    by true a f = (a, sym (ap pointOf f))
-    by false a f = cut-whole f
 
 -- A point of k bytes after a run's first n, traced
 module _ (bytes : List ℕ) (from n : ℕ) (x : Carried) (p : Point) (u : Text) (o : Operand) (c : Command) (l : Look) (m : List ℕ) (at : ℕ) (out : List ℕ) (k : ℕ) where

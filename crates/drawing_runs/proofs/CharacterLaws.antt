@@ -1,12 +1,15 @@
 -- Runs of characters
-use Rattle.drawing_runs.specs.Prelude.{_≡_, refl, sym, ap, _∙_, subst, Bool, true, false, List, [], _∷_, _++_, ℕ, zero, suc, _+_, _*_, _-_, _%_, _^_, _<_, _≤_, add-zero, add-one, arith, length, getD, set, ltb, ltb-true, ltb-false, ne-eqb}
+use Rattle.drawing_runs.specs.Prelude.{_≡_, refl, sym, ap, _∙_, subst, Bool, true, false, List, [], _∷_, _++_, ℕ, zero, suc, _+_, _*_, _-_, _%_, _^_, _<_, _≤_, add-zero, add-one, arith, length, getD, set, ltb, ltb-true, ltb-false, eqb, eqb-true, eqb-false, ne-eqb}
 use Rattle.rules.specs.declared.Action.{Action}
 use Rattle.rules.specs.declared.Action.the-variants.{Character, Format}
 use Rattle.rules.specs.declared.Command.{Command}
 use Rattle.rules.specs.declared.Drawing.{Drawing}
+use Rattle.rules.specs.declared.Due.{Due}
+use Rattle.rules.specs.declared.Due.the-variants.{First, Second, Third, Past}
 use Rattle.rules.specs.declared.Effector.{Effector}
 use Rattle.rules.specs.declared.Effector.the-variants.{Apb, Apf, Apd, Apu, Cs, Apr, Aph}
 use Rattle.rules.specs.declared.Look.{Look}
+use Rattle.rules.specs.declared.Operand.{Operand}
 use Rattle.rules.specs.declared.Pair.{Pair}
 use Rattle.rules.specs.declared.Pair.the-variants.{NoPair, Automatic, ReturnSeen, FeedSeen}
 use Rattle.rules.specs.declared.Pen.{Pen}
@@ -22,24 +25,24 @@ use Rattle.rules.specs.Numbers.{roomForStep, origin}
 use Rattle.rules.specs.Record.{words, bytesOf, setNumber, recordOf, mark, characterRecord}
 use Rattle.rules.specs.Choice.{pick}
 use Rattle.rules.specs.Text.{setCursor, setAlong, nextAlong, fitsNext, enter, rowIn, rowDown, firstPosition, automaticPair, advance, spaces, typed}
-use Rattle.rules.specs.Text.{opposite, withCursor, led, aligned, rowUp, apb, home, returnIn, feedIn, formatted}
+use Rattle.rules.specs.Text.{opposite, withCursor, led, aligned, rowUp, apb, home, returnIn, feedIn, formatted, closeText}
 use Rattle.rules.specs.Coding.{React, character, graphic}
-use Rattle.rules.specs.Drawing.{Outcome, Draw, andThen, withPen, newCommand, act, isOpen, closed}
+use Rattle.rules.specs.Drawing.{rows, rowOf, roleOf, commandOf, Outcome, Draw, andThen, complete, finish, withPen, newCommand, close, marked, controlRecord, act, isOpen}
 use Rattle.rules.proofs.Bools.{pick-yes, pick-no}
 use Rattle.rules.proofs.RecordCount.{closed-close}
 use Rattle.rules.proofs.TextLaws.{led-led}
 use Rattle.records.specs.declared.Head.{Head}
 use Rattle.records.specs.Bytes.{overwrite, headOf, headBytes}
 use Rattle.records.proofs.Heads.{record-bytes, head-code}
-use Rattle.figures.specs.Carried.{Carried}
-use Rattle.figures.specs.Tracing.{Inks}
+use Rattle.figures.specs.Carried.{Carried, drawingOf}
+use Rattle.figures.specs.Tracing.{Inks, penAt}
 use Rattle.text.specs.Line.{Advances, packed, unpacked, placeAfter, Straight}
 use Rattle.figures.proofs.Carrying.{carry-one}
 use Rattle.drawing_runs.specs.Run.{ActsAs, Run, none, more, standing}
 use Rattle.drawing_runs.specs.Strokes.{rested}
 use Rattle.drawing_runs.proofs.ActsLaws.{graphic-acts, format-acts}
 use Rattle.drawing_runs.specs.declared.lines.Common.{Common}
-use Rattle.drawing_runs.specs.Characters.{lastCharacter, typedPen, commandAfter, typedState, IsCharacter, IsFormat, IsCommon, Typed, Puts, penOf, Goes, TypedOn, lineMoved, lineText}
+use Rattle.drawing_runs.specs.Characters.{lastCharacter, AtOnce, ClosesTo, typedPen, commandAfter, typedState, IsCharacter, IsFormat, IsCommon, Typed, Puts, penOf, Goes, TypedOn, lineMoved, lineText}
 
 last-least : (x : Repertoire) → lastCharacter x ≤ 127
 last-least Primary = omega arith
@@ -60,11 +63,6 @@ unfolding graphic
 acts x b h g =
     graphic-acts (Characters x) b (Character x b) h (omega (arith, last-least x)) (λ c st. ap (React c st) (prints x b g))
 
--- No command is open after characters
-none-open : (n : ℕ) (c : Command) → c .opcode ≡ 0 → commandAfter n c .opcode ≡ 0
-none-open zero c e = e
-none-open (suc n) c e = refl
-
 -- No character looks at a begun operand
 advance-rested : (p : Pen) → advance (rested p) ≡ rested (advance p)
 unfolding advance automaticPair rowDown rowIn firstPosition enter setAlong setCursor
@@ -84,57 +82,57 @@ typed-rested x b p = by (spaces x b)
     by true = advance-rested p
     by false = refl
 
--- A character where no command is open
-drawn : (x : Repertoire) (b : ℕ) (d : Drawing) → d .command .opcode ≡ 0
-    → act (Character x b) d ≡ Draw (withPen (typed x b (closed d .pen)) (closed d)) (characterRecord (d .look) (setNumber x) b (d .pen .text) ∷ [])
-unfolding act andThen isOpen
-drawn x b d e =
-    ap (λ (o : Outcome). andThen o (λ (f : Drawing). Draw (withPen (typed x b (f .pen)) f) (characterRecord (f .look) (setNumber x) b (f .pen .text) ∷ [])))
-    (closed-close d (rw e))
+-- A byte closes, has a record of what closing leaves, and changes the pen by g
+abbrev Marks : Action → (Pen → Pen) → (Drawing → Record) → Type 0
+Marks a g r = (d : Drawing) → act a d ≡ marked r (λ e. withPen (g (e .pen)) e) d
 
--- The pen that a character more leaves
-pen-after : (x : Repertoire) (b n : ℕ) (p : Pen) → typed x b (rested (typedPen n p)) ≡ rested (typed x b p)
-pen-after x b zero p = typed-rested x b p
-pen-after x b (suc n) p = typed-rested x b p
+type-marks : (x : Repertoire) (b : ℕ) → Marks (Character x b) (typed x b) (λ e. characterRecord (e .look) (setNumber x) b (e .pen .text))
+unfolding act
+type-marks x b d = refl
 
-text-after : (n : ℕ) (p : Pen) → typedPen n p .text ≡ p .text
-text-after zero p = refl
-text-after (suc n) p = refl
+format-marks : (f : Effector) (b : ℕ) → Marks (Format f b) (formatted f) (controlRecord b)
+unfolding act
+format-marks f b d = refl
+
+-- Closing leaves the pen p, with no operand begun
+closes : (n : ℕ) (p₀ p₁ p : Pen) (c : Command) (l : Look) (m : List ℕ) → ClosesTo p₀ c p₁ → (n ≡ 0 → p₁ ≡ p)
+    → close (drawingOf (typedPen n p₀ p) (commandAfter n c) l m) ≡ Draw (drawingOf (rested p) (newCommand 0 origin) l m) []
+unfolding isOpen act
+closes zero p₀ p₁ p c l m k e = k l m ∙ ap (λ (q : Pen). Draw (drawingOf (rested q) (newCommand 0 origin) l m) []) (e refl)
+closes (suc n) p₀ p₁ p c l m k e = closed-close (drawingOf (rested p) (newCommand 0 origin) l m) refl
+
+marks-drawn : (a : Action) (g : Pen → Pen) (r : Drawing → Record) (d e : Drawing) → Marks a g r → close d ≡ Draw e []
+    → act a d ≡ Draw (withPen (g (e .pen)) e) (r e ∷ [])
+unfolding andThen
+marks-drawn a g r d e marks k =
+    marks d ∙ ap (λ (o : Outcome). andThen o (λ (f : Drawing). Draw (withPen (g (f .pen)) f) (r f ∷ []))) k
 
 -- One step more, that has a record and leaves the pen q
-step-on : (x : Repertoire) (bytes : List ℕ) (from n : ℕ) (p₀ p q : Pen) (c : Command) (l : Look) (m : List ℕ) (at : ℕ) (first out : List ℕ) {out′ : List ℕ}
-    (a : Action) (g : Pen → Pen) (r : Record)
-    → c .opcode ≡ 0
-    → Run (Characters x) bytes from (standing p₀ c l m at first) n (typedState n p c l m at out)
-    → ActsAs (Characters x) (getD bytes (from + n) 0) a
-    → ((d : Drawing) → d .command .opcode ≡ 0 → d .look ≡ l → d .pen ≡ typedPen n p → act a d ≡ Draw (withPen (g (closed d .pen)) (closed d)) (r ∷ []))
-    → g (rested (typedPen n p)) ≡ rested q
+step-on : (k : Common) (bytes : List ℕ) (from at : ℕ) (first : List ℕ) (p₀ p₁ : Pen) (n : ℕ) (p q : Pen) (out : List ℕ) {out′ : List ℕ}
+    (a : Action) (g : Pen → Pen) (r : Drawing → Record)
+    → Typed k bytes from at first p₀ p₁ n p out
+    → ((l : Look) → IsCommon k l → ActsAs (Characters (k .set)) (getD bytes (from + n) 0) a)
+    → Marks a g r
+    → g (rested p) ≡ rested q
     → at + (40 * n + roomForStep) ≤ length out
-    → out′ ≡ overwrite (at + 40 * n) (bytesOf r) out
-    → Run (Characters x) bytes from (standing p₀ c l m at first) (suc n) (typedState (suc n) q c l m at out′)
-step-on x bytes from n p₀ p q c l m at first out {out′} a g r e run asks draws pen room wrote =
-    let d = typedState n p c l m at out .drawing in
-    let ran = more run asks (omega arith) (draws d (none-open n c e) refl refl) in
-    let place : at + 40 * n + 40 ≡ at + 40 * suc n = omega arith in
-    subst (Run (Characters x) bytes from (standing p₀ c l m at first) (suc n))
-    (carry-one _ _ _ _ _ ∙ (λ i. record { refused = false; drawing = withPen (pen i) (closed d); at = place i; output = sym wrote i }))
-    ran
-
--- One character more
-type-on : (x : Repertoire) (bytes : List ℕ) (from n : ℕ) (p₀ p : Pen) (c : Command) (l : Look) (m : List ℕ) (at : ℕ) (first out : List ℕ) {out′ : List ℕ}
-    → c .opcode ≡ 0
-    → Run (Characters x) bytes from (standing p₀ c l m at first) n (typedState n p c l m at out)
-    → 32 ≤ getD bytes (from + n) 0
-    → getD bytes (from + n) 0 ≤ lastCharacter x
-    → at + (40 * n + roomForStep) ≤ length out
-    → out′ ≡ overwrite (at + 40 * n) (bytesOf (characterRecord l (setNumber x) (getD bytes (from + n) 0) (p .text))) out
-    → Run (Characters x) bytes from (standing p₀ c l m at first) (suc n) (typedState (suc n) (typed x (getD bytes (from + n) 0) p) c l m at out′)
-type-on x bytes from n p₀ p c l m at first out {out′} e r least most room w =
-    let b = getD bytes (from + n) 0 in
-    let s : Look → Text → Record = λ k t. characterRecord k (setNumber x) b t in
-    let draws : (d : Drawing) → d .command .opcode ≡ 0 → d .look ≡ l → d .pen ≡ typedPen n p → act (Character x b) d ≡ Draw (withPen (typed x b (closed d .pen)) (closed d)) (s l (p .text) ∷ [])
-    = λ d f g h. drawn x b d f ∙ (λ i. Draw (withPen (typed x b (closed d .pen)) (closed d)) (s (g i) ((ap (λ (z : Pen). z .text) h ∙ text-after n p) i) ∷ [])) in
-    step-on x bytes from n p₀ p (typed x b p) c l m at first out (Character x b) (typed x b) (s l (p .text)) e r (acts x b least most) draws (pen-after x b n p) room w
+    → ((l : Look) (m : List ℕ) → IsCommon k l → out′ ≡ overwrite (at + 40 * n) (bytesOf (r (drawingOf (rested p) (newCommand 0 origin) l m))) out)
+    → Typed k bytes from at first p₀ p₁ (n + 1) q out′
+step-on k bytes from at first p₀ p₁ n p q out {out′} a g r before asks marks pen room wrote =
+    record {
+      begun = λ e. absurd (omega (arith, e));
+      ran = λ c l m z t. rw (add-one n) (stepped c l m z t);
+    }
+  where
+    stepped : (c : Command) (l : Look) (m : List ℕ) → ClosesTo p₀ c p₁ → IsCommon k l
+        → Run (Characters (k .set)) bytes from (standing p₀ c l m at first) (suc n) (typedState (suc n) p₀ q c l m at out′)
+    stepped c l m z t =
+        let e = drawingOf (rested p) (newCommand 0 origin) l m in
+        let drew = marks-drawn a g r (typedState n p₀ p c l m at out .drawing) e marks (closes n p₀ p₁ p c l m z (before .begun)) in
+        let ran = more (before .ran c l m z t) (asks l t) (omega arith) drew in
+        let place : at + 40 * n + 40 ≡ at + 40 * suc n = omega arith in
+        subst (Run (Characters (k .set)) bytes from (standing p₀ c l m at first) (suc n))
+        (carry-one _ _ _ _ _ ∙ (λ i. record { refused = false; drawing = withPen (pen i) e; at = place i; output = sym (wrote l m t) i }))
+        ran
 
 -- No format effector looks at a begun operand
 
@@ -172,24 +170,9 @@ format-rested Cs p = refl
 format-rested Apr p = return-rested (p .text .pair) p
 format-rested Aph p = refl
 
-format-after : (f : Effector) (n : ℕ) (p : Pen) → formatted f (rested (typedPen n p)) ≡ rested (formatted f p)
-format-after f zero p = format-rested f p
-format-after f (suc n) p = format-rested f p
-
-point-after : (n : ℕ) (p : Pen) → typedPen n p .point ≡ p .point
-point-after zero p = refl
-point-after (suc n) p = refl
-
--- A format effector where no command is open
-format-drawn : (f : Effector) (b : ℕ) (d : Drawing) → d .command .opcode ≡ 0
-    → act (Format f b) d ≡ Draw (withPen (formatted f (closed d .pen)) (closed d)) (mark (d .look) 7 0 b (d .pen .point) ∷ [])
-unfolding act andThen isOpen
-format-drawn f b d e =
-    ap (λ (o : Outcome). andThen o (λ (z : Drawing). Draw (withPen (formatted f (z .pen)) z) (mark (z .look) 7 0 b (z .pen .point) ∷ []))) (closed-close d (rw e))
-
 -- One character more, by a record's head with its code, from a pen whose text has a cursor and a field
-typed-on : (k : Common) (g : Head) (bytes : List ℕ) (from at : ℕ) (first : List ℕ) (p₀ : Pen) (n : ℕ) (p q : Pen) (cursor field : Point) (out : List ℕ) {out′ : List ℕ}
-    → Typed k bytes from at first p₀ n p out
+typed-on : (k : Common) (g : Head) (bytes : List ℕ) (from at : ℕ) (first : List ℕ) (p₀ p₁ : Pen) (n : ℕ) (p q : Pen) (cursor field : Point) (out : List ℕ) {out′ : List ℕ}
+    → Typed k bytes from at first p₀ p₁ n p out
     → 32 ≤ getD bytes (from + n) 0
     → getD bytes (from + n) 0 ≤ k .last
     → at + (40 * n + roomForStep) ≤ length out
@@ -198,19 +181,17 @@ typed-on : (k : Common) (g : Head) (bytes : List ℕ) (from at : ℕ) (first : L
     → p .text .field ≡ field
     → out′ ≡ overwrite (at + 40 * n) (headBytes g ++ words cursor ++ words field ++ words origin ++ words (k .pel)) out
     → q ≡ typed (k .set) (getD bytes (from + n) 0) p
-    → Typed k bytes from at first p₀ (n + 1) q out′
+    → Typed k bytes from at first p₀ p₁ (n + 1) q out′
 unfolding characterRecord recordOf
-typed-on k g bytes from at first p₀ n p q cursor field out r least most room coded ce fe w f c l m o t =
+typed-on k g bytes from at first p₀ p₁ n p q cursor field out before least most room coded ce fe w f =
     let b = getD bytes (from + n) 0 in
     let u = p .text in
     let x = k .set in
-    let s = recordOf l 6 0 (setNumber x) b (u .cursor) (u .field) origin in
-    let e = head-code g (k .head) l 6 0 (setNumber x) 0 b (u .cursor) (u .field) origin (t .head-is (u .cursor) (u .field) origin) coded in
-    let v =
-    w
-    ∙ (λ i. overwrite (at + 40 * n) (headBytes g ++ words (sym ce i) ++ words (sym fe i) ++ words origin ++ words (t .pel-is i)) out)
-    ∙ ap (λ (bs : List ℕ). overwrite (at + 40 * n) bs out) (record-bytes s g e) in
-    rw (add-one n, f) (type-on x bytes from n p₀ p c l m at first out o (r c l m o t) least (rw (t .last-is) at most) room v)
+    step-on k bytes from at first p₀ p₁ n p q out (Character x b) (typed x b) (λ e. characterRecord (e .look) (setNumber x) b (e .pen .text)) before (λ l t. acts x b least (rw (t .last-is) at most)) (type-marks x b) (typed-rested x b p ∙ ap rested (sym f)) room
+    (λ l m t. let e = head-code g (k .head) l 6 0 (setNumber x) 0 b (u .cursor) (u .field) origin (t .head-is (u .cursor) (u .field) origin) coded in
+        w
+        ∙ (λ i. overwrite (at + 40 * n) (headBytes g ++ words (sym ce i) ++ words (sym fe i) ++ words origin ++ words (t .pel-is i)) out)
+        ∙ ap (λ (bs : List ℕ). overwrite (at + 40 * n) bs out) (record-bytes (recordOf l 6 0 (setNumber x) b (u .cursor) (u .field) origin) g e))
 
 -- The text goes on alone
 
@@ -243,14 +224,14 @@ pen-stays v t p e = subst (λ (z : Bool). p ≡ penOf z t p) (sym e) refl
 
 module _ (k : Common) (bytes : List ℕ) (from at : ℕ) where
   pub goes-none : (n : ℕ) (v : Bool) (t : Text) (out : List ℕ) → Goes k bytes from at n v t out n v t out
-  goes-none n v t out p e = (e, λ first p₀ r. r)
+  goes-none n v t out p e = (e, λ first p₀ p₁ r. r)
 
   pub goes-then : (n i j : ℕ) (v w z : Bool) (t u s : Text) (out out₁ out₂ : List ℕ)
       → Goes k bytes from at n v t out i w u out₁ → Goes k bytes from at i w u out₁ j z s out₂ → Goes k bytes from at n v t out j z s out₂
   goes-then n i j v w z t u s out out₁ out₂ g h p e =
       let a = g p e in
       let b = h p (a .0) in
-      (b .0, λ first p₀ r. b .1 first p₀ (a .1 first p₀ r))
+      (b .0, λ first p₀ p₁ r. b .1 first p₀ p₁ (a .1 first p₀ p₁ r))
 
   -- A character more
   pub goes-on : (g : Head) (n : ℕ) (v w : Bool) (t u : Text) (cursor field : Point) (out out′ : List ℕ)
@@ -265,7 +246,7 @@ module _ (k : Common) (bytes : List ℕ) (from at : ℕ) where
       → Goes k bytes from at n v t out (n + 1) w u out′
   goes-on g n v w t u cursor field out out′ least most room coded ce fe wrote f p e =
       let a = f p e in
-      (a .0, λ first p₀ r. typed-on k g bytes from at first p₀ n (penOf v t p) (penOf w u p) cursor field out r least most room coded (ap (λ (z : Text). z .cursor) e ∙ ce) (ap (λ (z : Text). z .field) e ∙ fe) wrote (a .1))
+      (a .0, λ first p₀ p₁ r. typed-on k g bytes from at first p₀ p₁ n (penOf v t p) (penOf w u p) cursor field out r least most room coded (ap (λ (z : Text). z .cursor) e ∙ ce) (ap (λ (z : Text). z .field) e ∙ fe) wrote (a .1))
 
   -- A format effector more
   pub format-on : (f : Effector) (n : ℕ) (p q : Pen) (out out′ : List ℕ)
@@ -274,23 +255,21 @@ module _ (k : Common) (bytes : List ℕ) (from at : ℕ) where
       → ((l : Look) → Inks (k .ink) (k .pel) l → out′ ≡ overwrite (at + 40 * n) (bytesOf (mark l 7 0 (getD bytes (from + n) 0) (p .point))) out)
       → q ≡ formatted f p
       → Puts k bytes from at n p out (n + 1) q out′
-  format-on f n p q out out′ is room wrote e first p₀ r c l m o t =
+  format-on f n p q out out′ is room wrote e first p₀ p₁ r =
       let b = getD bytes (from + n) 0 in
-      let x = k .set in
-      let draws : (d : Drawing) → d .command .opcode ≡ 0 → d .look ≡ l → d .pen ≡ typedPen n p → act (Format f b) d ≡ Draw (withPen (formatted f (closed d .pen)) (closed d)) (mark l 7 0 b (p .point) ∷ [])
-      = λ d z g h. format-drawn f b d z ∙ (λ i. Draw (withPen (formatted f (closed d .pen)) (closed d)) (mark (g i) 7 0 b ((ap (λ (y : Pen). y .point) h ∙ point-after n p) i) ∷ [])) in
-      rw (add-one n, e) (step-on x bytes from n p₀ p (formatted f p) c l m at first out (Format f b) (formatted f) (mark l 7 0 b (p .point)) o (r c l m o t) (format-acts (Characters x) f b (is .0) (is .1)) draws (format-after f n p) room (wrote l (t .ink-is)))
+      step-on k bytes from at first p₀ p₁ n p q out (Format f b) (formatted f) (controlRecord b) r (λ l t. format-acts (Characters (k .set)) f b (is .0) (is .1)) (format-marks f b) (format-rested f p ∙ ap rested (sym e)) room (λ l m t. wrote l (t .ink-is))
 
   pub puts-none : (n : ℕ) (p : Pen) (out : List ℕ) → Puts k bytes from at n p out n p out
-  puts-none n p out first p₀ r = r
+  puts-none n p out first p₀ p₁ r = r
 
   pub puts-then : (n i j : ℕ) (p q s : Pen) (out out₁ out₂ : List ℕ)
       → Puts k bytes from at n p out i q out₁ → Puts k bytes from at i q out₁ j s out₂ → Puts k bytes from at n p out j s out₂
-  puts-then n i j p q s out out₁ out₂ g h first p₀ r = h first p₀ (g first p₀ r)
+  puts-then n i j p q s out out₁ out₂ g h first p₀ p₁ r = h first p₀ p₁ (g first p₀ p₁ r)
 
-  -- All characters of a run that began with a pen
-  pub goes-all : (n i : ℕ) (w : Bool) (u : Text) (p q : Pen) (out out′ : List ℕ) → Goes k bytes from at n false (p .text) out i w u out′ → q ≡ penOf w u p → Puts k bytes from at n p out i q out′
-  goes-all n i w u p q out out′ g e = subst (λ (z : Pen). Puts k bytes from at n p out i z out′) (sym e) (g p refl .1)
+  -- The same of a text that goes on alone, with its pen
+  pub goes-all : (n i : ℕ) (v w : Bool) (t u : Text) (p q : Pen) (out out′ : List ℕ) → penOf v t p .text ≡ t → Goes k bytes from at n v t out i w u out′ → q ≡ penOf w u p
+      → Puts k bytes from at n (penOf v t p) out i q out′
+  goes-all n i v w t u p q out out′ h g e = subst (λ (z : Pen). Puts k bytes from at n (penOf v t p) out i z out′) (sym e) (g p h .1)
 
 -- On a line
 
@@ -382,15 +361,15 @@ pub line-shorter : (t : Text) (most n step : ℕ) → n ≤ most → Straight t 
 line-shorter t most n step h s i l p w o = s i (omega (arith, h, l)) p w o
 
 -- Characters put from a run's start on
-typed-none : (k : Common) (bytes : List ℕ) (from at : ℕ) (out : List ℕ) (p : Pen) → Typed k bytes from at out p 0 p out
-typed-none k bytes from at out p c l m o t = rw (add-zero at) none
+typed-none : (k : Common) (bytes : List ℕ) (from at : ℕ) (out : List ℕ) (p₀ p : Pen) → Typed k bytes from at out p₀ p 0 p out
+typed-none k bytes from at out p₀ p = record { begun = λ _. refl; ran = λ c l m o t. rw (add-zero at) none }
 
-pub puts-run : (x : Repertoire) (k : Common) (l : Look) (bytes : List ℕ) (from at : ℕ) (p q : Pen) (out out′ : List ℕ) (n : ℕ) (c : Command)
-    → k .set ≡ x → IsCommon k l → c .opcode ≡ 0 → Puts k bytes from at 0 p out n q out′
-    → (m : List ℕ) → Run (Characters x) bytes from (standing p c l m at out) n (typedState n q c l m at out′)
-puts-run x k l bytes from at p q out out′ n c e t o r m =
-    subst (λ (z : Repertoire). Run (Characters z) bytes from (standing p c l m at out) n (typedState n q c l m at out′)) e
-    (r out p (typed-none k bytes from at out p) c l m o t)
+pub puts-run : (x : Repertoire) (k : Common) (l : Look) (bytes : List ℕ) (from at : ℕ) (p₀ p q : Pen) (out out′ : List ℕ) (n : ℕ) (c : Command)
+    → k .set ≡ x → IsCommon k l → ClosesTo p₀ c p → Puts k bytes from at 0 p out n q out′
+    → (m : List ℕ) → Run (Characters x) bytes from (standing p₀ c l m at out) n (typedState n p₀ q c l m at out′)
+puts-run x k l bytes from at p₀ p q out out′ n c e t o r m =
+    subst (λ (z : Repertoire). Run (Characters z) bytes from (standing p₀ c l m at out) n (typedState n p₀ q c l m at out′)) e
+    (r out p₀ p (typed-none k bytes from at out p₀ p) .ran c l m o t)
 
 -- At least one
 pub some-more : (n i j : ℕ) → n ≤ i → i ≤ j → (n ≡ i → j ≡ i + 1) → n < j
@@ -407,14 +386,55 @@ ran-nothing e none = refl
 ran-nothing e (more r a room d) = absurd (omega (arith, e))
 
 pub ran-none : {s : Set} {bytes : List ℕ} {from : ℕ} (n : ℕ) (p₀ p : Pen) (c : Command) (l : Look) (m : List ℕ) (at : ℕ) (first out : List ℕ)
-    → n ≡ 0 → Run s bytes from (standing p₀ c l m at first) n (typedState n p c l m at out) → Run s bytes from (standing p₀ c l m at first) n (standing p₀ c l m at out)
+    → n ≡ 0 → Run s bytes from (standing p₀ c l m at first) n (typedState n p₀ p c l m at out) → Run s bytes from (standing p₀ c l m at first) n (standing p₀ c l m at out)
 ran-none {s} {bytes} {from} n p₀ p c l m at first out e r =
     let f : out ≡ first = ap (λ (z : Carried). z .output) (ran-nothing e r) in
     subst (λ (o : List ℕ). Run s bytes from (standing p₀ c l m at first) n (standing p₀ c l m at o)) (sym f)
     (subst (λ (i : ℕ). Run s bytes from (standing p₀ c l m at first) i (standing p₀ c l m at first)) (sym e) none)
 
-pub ran-some : {s : Set} {bytes : List ℕ} {from : ℕ} {y : Carried} (n : ℕ) (p : Pen) (c : Command) (l : Look) (m : List ℕ) (at : ℕ) (out : List ℕ)
+pub ran-some : {s : Set} {bytes : List ℕ} {from : ℕ} {y : Carried} (n : ℕ) (p₀ p : Pen) (c : Command) (l : Look) (m : List ℕ) (at : ℕ) (out : List ℕ)
     {p′ : Pen} {c′ : Command} → (n ≡ 0 → ⊥) → p′ ≡ rested p → c′ ≡ newCommand 0 origin
-    → Run s bytes from y n (typedState n p c l m at out) → Run s bytes from y n (standing p′ c′ l m (at + 40 * n) out)
-ran-some zero p c l m at out h e f r = absurd (h refl)
-ran-some (suc n) p c l m at out h e f r = rw (e, f) r
+    → Run s bytes from y n (typedState n p₀ p c l m at out) → Run s bytes from y n (standing p′ c′ l m (at + 40 * n) out)
+ran-some zero p₀ p c l m at out h e f r = absurd (h refl)
+ran-some (suc n) p₀ p c l m at out h e f r = rw (e, f) r
+
+-- What closing leaves
+
+text-closed : (n : Due) (p : Point) (t : Text) (bs : List ℕ) (v : ℕ) (a b : Point) (w : Bool) (l : Look) (m : List ℕ)
+    → close (drawingOf (penAt p t (record { bytes = bs; count = 0 })) (commandOf 34 n v a b w) l m)
+    ≡ Draw (drawingOf (rested (closeText n (penAt p t (record { bytes = bs; count = 0 })))) (newCommand 0 origin) l m) []
+unfolding close complete finish andThen roleOf rowOf rows
+text-closed First p t bs v a b w l m = refl
+text-closed Second p t bs v a b w l m = refl
+text-closed Third p t bs v a b w l m = refl
+text-closed Past p t bs v a b w l m = refl
+
+-- TEXT, whose closing makes the text u of t
+pub text-closes : (c : Command) (t u : Text) → c .opcode ≡ 34
+    → ((p : Point) (o : Operand) → closeText (c .due) (record { point = p; text = t; operand = o }) ≡ aligned u (record { point = p; text = t; operand = o }))
+    → (p : Pen) → p .text ≡ t → AtOnce c (p .operand) → (penOf true u p .text ≡ u) × ClosesTo p c (penOf true u p)
+text-closes c t u e k p f h = (refl, closing)
+  where
+    none-begun : p .operand .count ≡ 0
+    none-begun = h (λ z. absurd (omega (arith, e, z))) .1
+
+    closing : ClosesTo p c (penOf true u p)
+    closing l m =
+        (λ i. close (drawingOf (penAt (p .point) (f i) (record { bytes = p .operand .bytes; count = none-begun i })) (commandOf (e i) (c .due) (c .vertices) (c .start) (c .middle) (c .wrapped)) l m))
+        ∙ text-closed (c .due) (p .point) t (p .operand .bytes) (c .vertices) (c .start) (c .middle) (c .wrapped) l m
+        ∙ ap (λ (q : Pen). Draw (drawingOf (rested q) (newCommand 0 origin) l m) []) (k (p .point) (record { bytes = p .operand .bytes; count = 0 }))
+
+-- No command
+pub none-closes : (c : Command) (t : Text) → (c .opcode ≡ 34 → ⊥) → (p : Pen) → p .text ≡ t → AtOnce c (p .operand) → (penOf false t p .text ≡ t) × ClosesTo p c (penOf false t p)
+unfolding isOpen act
+none-closes c t e p f h = (f, closing)
+  where
+    none-open : c .opcode ≡ 0
+    none-open = by (eqb (c .opcode) 0) refl
+      where
+        by : (b : Bool) → eqb (c .opcode) 0 ≡ b → c .opcode ≡ 0
+        by true g = eqb-true (c .opcode) 0 g
+        by false g = absurd (e (h (eqb-false (c .opcode) 0 g) .0))
+
+    closing : ClosesTo p c (penOf false t p)
+    closing l m = closed-close (drawingOf p c l m) (rw none-open)

@@ -1,20 +1,27 @@
 -- Runs over operands that come whole.
-use Rattle.drawing_runs.specs.Prelude.{ℕ, zero, suc, _+_, _≤_, _<_, add-assoc, add-suc, add-zero, arith, _≡_, refl, sym, ap, _∙_, subst, true, false, List, [], _∷_, _++_, append-nil, length, getD, set, take, drop, length-set, length-drop, take-suc, take-suc-set, getD-drop, getD-take, length-take-le, lt-ltb, le-ltb, ne-eqb}
+use Rattle.drawing_runs.specs.Prelude.{ℕ, zero, suc, _+_, _≤_, _<_, add-assoc, add-suc, add-zero, arith, _≡_, refl, sym, ap, _∙_, subst, Bool, true, false, List, [], _∷_, _++_, append-nil, length, getD, set, take, drop, length-set, length-drop, take-suc, take-suc-set, getD-drop, getD-take, length-take-le, lt-ltb, le-ltb, leb, leb-true, ne-eqb, _&&_}
 use Rattle.rules.specs.declared.Action.the-variants.{Data}
+use Rattle.rules.specs.declared.Domain.{Domain}
 use Rattle.rules.specs.declared.Drawing.{Drawing}
 use Rattle.rules.specs.declared.Operand.{Operand}
+use Rattle.rules.specs.declared.Point.{Point}
 use Rattle.rules.specs.declared.Record.{Record}
 use Rattle.rules.specs.declared.Row.{Row}
+use Rattle.rules.specs.declared.Set.{Set}
 use Rattle.rules.specs.declared.Set.the-variants.{Pdi}
 use Rattle.rules.specs.Numbers.{roomForStep}
-use Rattle.rules.specs.Operands.{begun}
+use Rattle.rules.specs.Choice.{pick}
+use Rattle.rules.specs.Operands.{point, begun}
 use Rattle.rules.specs.Drawing.{rowOf, lengthOf, withOperand, Outcome, Draw, andThen, apply, nextOperand, roleDue, applyBegun, takeByte, dataByte, act}
-use Rattle.rules.proofs.Bools.{pick-yes, pick-no}
-use Rattle.operands.specs.Data.{allData}
+use Rattle.rules.specs.Ranges.{domainFits}
+use Rattle.rules.proofs.Bools.{pick-yes, pick-no, and-left, and-right, true-false}
+use Rattle.operands.specs.declared.whole.Whole.{Whole}
+use Rattle.operands.specs.declared.whole.Whole.the-variants.{Cut, Whole as Whole·point}
+use Rattle.operands.specs.Data.{allData, wholeOf}
 use Rattle.operands.proofs.WholeLaws.{data-range, all-at}
 use Rattle.figures.specs.Carried.{Carried, carry}
 use Rattle.figures.proofs.Carrying.{carry-none}
-use Rattle.drawing_runs.specs.Run.{ActsAs, Run, more}
+use Rattle.drawing_runs.specs.Run.{ActsAs, Run, none, more}
 use Rattle.drawing_runs.proofs.ActsLaws.{data-acts}
 
 -- A state that is not refused
@@ -108,3 +115,38 @@ module _ (bytes : List ℕ) (from n : ℕ) (x : Carried) (d : Drawing) (at : ℕ
       ∙ ap (λ (y : Outcome). andThen y next) applied
       ∙ ap (Draw (nextOperand (due .pattern) e)) (append-nil rs) in
       step (suc k) long each k (omega arith) (join (suc k) long each z run k (omega arith)) p
+
+-- A run after a run
+pub run-then : {s : Set} {bytes : List ℕ} {from j k : ℕ} {x y z : Carried} → Run s bytes from x j y → Run s bytes (from + j) y k z → Run s bytes from x (j + k) z
+run-then {s} {bytes} {from} {j} {k} {x} {y} r none = subst (λ (i : ℕ). Run s bytes from x i y) (sym (add-zero j)) r
+run-then {s} {bytes} {from} {j} {k} {x} r (more {n} {y} {a} {e} {rs} q acts room drew) =
+    subst (λ (i : ℕ). Run s bytes from x i (carry (Draw e rs) (y .drawing) (y .at) (y .output))) (sym (add-suc j n))
+    (more (run-then r q) (subst (λ (i : ℕ). ActsAs s (getD bytes i 0) a) (add-assoc from j n) acts) room drew)
+
+-- An operand that is cut has no point
+pub cut-whole {ℓ} : {A : Type ℓ} {v : Point} → Cut ≡ Whole·point v → A
+cut-whole e = true-false (ap isCut e)
+  where
+    isCut : Whole → Bool
+    isCut Cut = true
+    isCut (Whole·point p) = false
+
+-- A point was read: its bytes are data
+pub whole-tells : (three : Bool) (bs : List ℕ) (v : Point) → wholeOf three bs ≡ Whole·point v → (allData bs ≡ true) × (v ≡ point three bs)
+unfolding wholeOf
+whole-tells three bs v e = by (allData bs) refl e
+  where
+    pointOf : Whole → Point
+    pointOf Cut = v
+    pointOf (Whole·point p) = p
+
+    by : (t : Bool) → allData bs ≡ t → pick t (Whole·point (point three bs)) Cut ≡ Whole·point v → (allData bs ≡ true) × (v ≡ point three bs)
+    by true a f = (a, sym (ap pointOf f))
+    by false a f = cut-whole f
+
+-- The bytes of a multi-value operand
+pub multi-range : (o : Domain) → domainFits o ≡ true → (1 ≤ o .multi) × (o .multi ≤ 8)
+unfolding domainFits
+multi-range o h =
+    let e = and-right (leb 1 (o .single) && leb (o .single) 4) (leb 1 (o .multi) && leb (o .multi) 8) h in
+    (leb-true 1 (o .multi) (and-left (leb 1 (o .multi)) (leb (o .multi) 8) e), leb-true (o .multi) 8 (and-right (leb 1 (o .multi)) (leb (o .multi) 8) e))

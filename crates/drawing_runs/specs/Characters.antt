@@ -1,9 +1,10 @@
 -- Runs of characters
-use Rattle.drawing_runs.specs.Prelude.{ℕ, zero, suc, _+_, _*_, _<_, _≤_, _≡_, Bool, true, false, List, length, getD}
+use Rattle.drawing_runs.specs.Prelude.{ℕ, zero, suc, _+_, _*_, _<_, _≤_, _≡_, Bool, true, false, List, [], length, getD}
 use Rattle.rules.specs.declared.Command.{Command}
 use Rattle.rules.specs.declared.Control.the-variants.{Ignored, Formats}
 use Rattle.rules.specs.declared.Effector.{Effector}
 use Rattle.rules.specs.declared.Look.{Look}
+use Rattle.rules.specs.declared.Operand.{Operand}
 use Rattle.rules.specs.declared.Pair.the-variants.{NoPair}
 use Rattle.rules.specs.declared.Pen.{Pen}
 use Rattle.rules.specs.declared.Point.{Point}
@@ -15,9 +16,9 @@ use Rattle.rules.specs.Numbers.{roomForStep, origin}
 use Rattle.rules.specs.Record.{setNumber, recordOf}
 use Rattle.rules.specs.Text.{withCursor, aligned, typed}
 use Rattle.rules.specs.Coding.{controls}
-use Rattle.rules.specs.Drawing.{newCommand}
+use Rattle.rules.specs.Drawing.{Draw, newCommand, close}
 use Rattle.records.specs.Bytes.{headOf, headBytes}
-use Rattle.figures.specs.Carried.{Carried}
+use Rattle.figures.specs.Carried.{Carried, drawingOf}
 use Rattle.figures.specs.Tracing.{Inks}
 use Rattle.text.specs.Line.{unpacked}
 use Rattle.drawing_runs.specs.declared.lines.Common.{Common}
@@ -31,18 +32,26 @@ lastCharacter Supplementary = 126
 lastCharacter Mosaic = 127
 lastCharacter Drcs = 127
 
--- What so many characters leave of a pen and of a command: the first closes
-abbrev pub typedPen : ℕ → Pen → Pen
-typedPen zero p = p
-typedPen (suc n) p = rested p
+-- A command closes at once with the pen p₀: no record is written, and the pen is p then, with no operand begun
+abbrev pub ClosesTo : Pen → Command → Pen → Type 0
+ClosesTo p₀ c p = (l : Look) (m : List ℕ) → close (drawingOf p₀ c l m) ≡ Draw (drawingOf (rested p) (newCommand 0 origin) l m) []
+
+-- No command is open, or TEXT is with no operand begun
+abbrev pub AtOnce : Command → Operand → Type 0
+AtOnce c o = (c .opcode ≡ 0 → ⊥) → (c .opcode ≡ 34) × (o .count ≡ 0)
+
+-- What so many characters leave of the pen p₀ and of a command: the first closes
+abbrev pub typedPen : ℕ → Pen → Pen → Pen
+typedPen zero p₀ p = p₀
+typedPen (suc n) p₀ p = rested p
 
 abbrev pub commandAfter : ℕ → Command → Command
 commandAfter zero c = c
 commandAfter (suc n) c = newCommand 0 origin
 
 -- A state after so many characters that left the pen p, their records written from a place on
-abbrev pub typedState : ℕ → Pen → Command → Look → List ℕ → ℕ → List ℕ → Carried
-typedState n p c l m at out = standing (typedPen n p) (commandAfter n c) l m (at + 40 * n) out
+abbrev pub typedState : ℕ → Pen → Pen → Command → Look → List ℕ → ℕ → List ℕ → Carried
+typedState n p₀ p c l m at out = standing (typedPen n p₀ p) (commandAfter n c) l m (at + 40 * n) out
 
 -- Room for each of so many characters
 abbrev pub Room : ℕ → ℕ → List ℕ → Type 0
@@ -62,18 +71,16 @@ pub record IsCommon (k : Common) (l : Look) : Type 0 where
   pub head-is : (q r s : Point) → headBytes (k .head) ≡ headOf (recordOf l 6 0 (setNumber (k .set)) 0 q r s)
   pub pel-is : k .pel ≡ l .domain .pel
 
--- n characters from a place on left the pen p
-abbrev pub Typed : Common → List ℕ → ℕ → ℕ → List ℕ → Pen → ℕ → Pen → List ℕ → Type 0
-Typed k bytes from at first p₀ n p out =
-    (c : Command) (l : Look) (m : List ℕ)
-    → c .opcode ≡ 0
-    → IsCommon k l
-    → Run (Characters (k .set)) bytes from (standing p₀ c l m at first) n (typedState n p c l m at out)
+-- n characters from a place on left the pen p; closing had left p₁
+pub record Typed (k : Common) (bytes : List ℕ) (from at : ℕ) (first : List ℕ) (p₀ p₁ : Pen) (n : ℕ) (p : Pen) (out : List ℕ) : Type 0 where
+  pub begun : n ≡ 0 → p₁ ≡ p
+  pub ran : (c : Command) (l : Look) (m : List ℕ) → ClosesTo p₀ c p₁ → IsCommon k l
+      → Run (Characters (k .set)) bytes from (standing p₀ c l m at first) n (typedState n p₀ p c l m at out)
 
 -- Where n characters left the pen p, n′ leave p′
 abbrev pub Puts : Common → List ℕ → ℕ → ℕ → ℕ → Pen → List ℕ → ℕ → Pen → List ℕ → Type 0
 Puts k bytes from at n p out n′ p′ out′ =
-    (first : List ℕ) (p₀ : Pen) → Typed k bytes from at first p₀ n p out → Typed k bytes from at first p₀ n′ p′ out′
+    (first : List ℕ) (p₀ p₁ : Pen) → Typed k bytes from at first p₀ p₁ n p out → Typed k bytes from at first p₀ p₁ n′ p′ out′
 
 -- The pen whose text went on to t: its point is aligned where the cursor was moved
 abbrev pub penOf : Bool → Text → Pen → Pen

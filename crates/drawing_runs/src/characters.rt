@@ -7,6 +7,7 @@ use crate::lines::common_of;
 use crate::lines::is_character;
 use crate::lines::put_rest;
 use crate::most_steps;
+use crate::settings::TEXT;
 use drawing::closing::new_command;
 use drawing::data::resting;
 use drawing::opening::put_mark;
@@ -17,22 +18,26 @@ use rules::Command;
 use rules::Control;
 use rules::Look;
 use rules::ORIGIN;
+use rules::Operand;
 use rules::Pen;
 use rules::RECORD_SIZE;
 use rules::Repertoire;
 use rules::Set;
+use rules::Text;
 use tables::controls::class_of;
 use text::characters::spaces;
 use text::cursor::aligned;
 use text::movers::advanced;
 use text::movers::format;
+use text::settings::closed_text;
 ghost use mathlib.Core.Path.{_≡_};
+ghost use mathlib.Core.Bool.{true};
 ghost use Prim.Native.Nat.{_+_, _*_, _<_, _≤_};
 ghost use lib.ListN.{length, getD};
 ghost use Rattle.rules.specs.declared.Effector.{Effector};
 ghost use Rattle.rules.specs.Numbers.{roomForStep};
 ghost use Rattle.drawing_runs.specs.Run.{RunsTo};
-ghost use Rattle.drawing_runs.specs.Characters.{IsCharacter, IsFormat, Room, penOf, Goes, Puts, TypedOn};
+ghost use Rattle.drawing_runs.specs.Characters.{IsCharacter, IsFormat, Room, AtOnce, ClosesTo, penOf, Goes, Puts, TypedOn};
 
 // How many characters were put, and the pen after them; an operand that was begun before is still with it.
 struct Page {
@@ -126,20 +131,20 @@ fn pen_of(hand: Hand, pen: Pen) -> Pen
 // Puts characters, a line at a time: their records, and the cursor moved by each.
 fn put_characters(
     common: Common,
-    pen: Pen,
+    hand: Hand,
     bytes: &[u8],
     from: usize,
     count: usize,
     most: usize,
     out: &mut [u8],
     at: usize,
-) -> Page
+) -> Put
     requires { ⌜ (count ≤ most) × (from + most ≤ length (now bytes)) × Room at most (now out) ⌝ }
-    ensures goes { λ r. ⌜ Puts common (now (bytes .entry)) from at count pen (now (out .entry)) (r .count) (r .pen) (now (out .exit)) ⌝ }
+    ensures goes { λ r. ⌜ Goes common (now (bytes .entry)) from at count (hand .moved) (hand .text) (now (out .entry))
+        (r .count) (r .hand .moved) (r .hand .text) (now (out .exit)) ⌝ }
     ensures most { λ r. ⌜ (count ≤ r .count) × (r .count ≤ most) ⌝ }
 {
-    let text = pen.text;
-    let mut hand = Hand { moved: false, text };
+    let mut hand = hand;
     let mut n = count;
     while n < most {
         let code = bytes[from + n];
@@ -150,10 +155,7 @@ fn put_characters(
         n = put.count;
         hand = put.hand;
     }
-    Page {
-        count: n,
-        pen: pen_of(hand, pen),
-    }
+    Put { count: n, hand }
 }
 
 // The control that a byte is; one from 2/0 on does nothing as such.
@@ -195,9 +197,10 @@ fn put_format(
     Page { count, pen }
 }
 
-// Puts characters and format effectors.
+// Puts characters and format effectors, from a pen whose text went on alone.
 fn put_text(
     common: Common,
+    hand: Hand,
     pen: Pen,
     bytes: &[u8],
     from: usize,
@@ -205,28 +208,58 @@ fn put_text(
     out: &mut [u8],
     at: usize,
 ) -> Page
-    requires { ⌜ (from + most ≤ length (now bytes)) × Room at most (now out) ⌝ }
-    ensures puts { λ r. ⌜ Puts common (now (bytes .entry)) from at 0 pen (now (out .entry)) (r .count) (r .pen) (now (out .exit)) ⌝ }
+    requires { ⌜ (from + most ≤ length (now bytes)) × Room at most (now out) × (penOf (hand .moved) (hand .text) pen .text ≡ hand .text) ⌝ }
+    ensures puts { λ r. ⌜ Puts common (now (bytes .entry)) from at 0 (penOf (hand .moved) (hand .text) pen) (now (out .entry))
+        (r .count) (r .pen) (now (out .exit)) ⌝ }
     ensures most { λ r. ⌜ r .count ≤ most ⌝ }
 {
     let mut count: usize = 0;
+    let mut hand = hand;
     let mut pen = pen;
-    while count < most {
-        let put = put_characters(common, pen, bytes, from, count, most, out, at);
+    loop {
+        let put = put_characters(common, hand, bytes, from, count, most, out, at);
+        pen = pen_of(put.hand, pen);
         if put.count == most {
-            return put;
+            return Page {
+                count: put.count,
+                pen,
+            };
         }
-        let formatted = put_format(common, put.pen, bytes, from, put.count, out, at);
+        let formatted = put_format(common, pen, bytes, from, put.count, out, at);
         if formatted.count == put.count {
             return formatted;
         }
         count = formatted.count;
         pen = formatted.pen;
+        let text = pen.text;
+        hand = Hand { moved: false, text };
     }
-    Page { count, pen }
 }
 
-// Characters and format effectors one after the other while no command is open.
+// Whether a command closes with no record: none is open, or TEXT is, with no operand begun.
+pub fn closes_at_once(command: Command, operand: Operand) -> bool
+    ensures { λ r. ⌜ (r ≡ true → AtOnce command operand) ⌝ }
+{
+    if command.opcode == 0 {
+        return true;
+    }
+    command.opcode == TEXT && operand.count == 0
+}
+
+// What closing leaves of a text: TEXT holds the cursor on the screen.
+fn closed_by(command: Command, text: Text) -> Hand
+    ensures { λ r. ⌜ ((p : Pen) → p .text ≡ text → AtOnce command (p .operand)
+        → (penOf (r .moved) (r .text) p .text ≡ r .text) × ClosesTo p command (penOf (r .moved) (r .text) p)) ⌝ }
+{
+    if command.opcode == TEXT {
+        let due = command.due;
+        let text = closed_text(due, text);
+        return Hand { moved: true, text };
+    }
+    Hand { moved: false, text }
+}
+
+// Characters and format effectors one after the other, where the open command closes at once.
 pub fn run_text(
     set: Repertoire,
     pen: Pen,
@@ -238,14 +271,15 @@ pub fn run_text(
     out: &mut [u8],
     at: usize,
 ) -> Ran
-    requires { ⌜ (command .opcode ≡ 0) × (from ≤ to) × (to ≤ length (now bytes)) × (at ≤ length (now out)) ⌝ }
+    requires { ⌜ (AtOnce command (pen .operand)) × (from ≤ to) × (to ≤ length (now bytes)) × (at ≤ length (now out)) ⌝ }
     ensures ran { λ r. ⌜ RunsTo (Set.Characters set) (now (bytes .entry)) from pen command look at
         (now (out .entry)) r (now (out .exit)) ⌝ }
     ensures most { λ r. ⌜ from + r .count ≤ to ⌝ }
 {
     let most = most_steps(to - from, out.len() - at);
     let common = common_of(set, look);
-    let put = put_text(common, pen, bytes, from, most, out, at);
+    let hand = closed_by(command, pen.text);
+    let put = put_text(common, hand, pen, bytes, from, most, out, at);
     let count = put.count;
     if count == 0 {
         return Ran {

@@ -1,6 +1,7 @@
 // Runs: many bytes of one set at once, each a step of its own.
 pub mod characters;
 mod lines;
+pub mod settings;
 pub mod strokes;
 
 use rules::Command;
@@ -8,6 +9,7 @@ use rules::Pen;
 use rules::Point;
 use rules::RECORD_SIZE;
 use rules::ROOM_FOR_STEP;
+use text::tips::Tip;
 ghost use Prim.Native.Nat.{ℕ, _+_, _*_, _<_, _≤_};
 ghost use Rattle.rules.specs.Numbers.{roomForStep};
 
@@ -25,6 +27,14 @@ pub struct Passed {
     pub at: usize,
     pub moved: bool,
     pub point: Point,
+    pub command: Command,
+}
+
+// The same of a run with the pen apart from its text.
+pub struct Drew {
+    pub count: usize,
+    pub at: usize,
+    pub tip: Tip,
     pub command: Command,
 }
 
