@@ -14,6 +14,7 @@ use Rattle.rules.specs.declared.Moving.{Moving}
 use Rattle.rules.specs.declared.Moving.the-variants.{Together, CursorLeads, PointLeads, Independent}
 use Rattle.rules.specs.declared.Pair.{Pair}
 use Rattle.rules.specs.declared.Pair.the-variants.{NoPair, Automatic, ReturnSeen, FeedSeen}
+use Rattle.rules.specs.declared.Operand.{Operand}
 use Rattle.rules.specs.declared.Path.{Path}
 use Rattle.rules.specs.declared.Path.the-variants.{Right, Left, Up, Down}
 use Rattle.rules.specs.declared.Pen.{Pen}
@@ -308,11 +309,15 @@ pub complete-past : (n : Due) (s : Settings) → n ≡ Past → s ≡ withMissin
 unfolding withMissing
 complete-past n s e = rw e
 
-pub close-of : (n : Due) (s o : Pen) (k : Settings) (t : Text) (x y : Coordinate) → k ≡ withMissing n (s .text .settings) → t ≡ withSettings k (s .text) → x ≡ coordinateOf (s .text .cursor .x) → y ≡ coordinateOf (s .text .cursor .y) → o ≡ setCursor x y (record { point = s .point; text = t; operand = s .operand }) → o ≡ closeText n s
-unfolding closeText
-close-of n s o k t x y e f g h l =
-    let m = f ∙ ap (λ (z : Settings). withSettings z (s .text)) e in
-    l ∙ (λ i. setCursor (g i) (h i) (record { point = s .point; text = m i; operand = s .operand }))
+-- The text t of a pen closed as the text v, whose cursor is held in the box e of its field
+pub closed-of : (n : Due) (t u v : Text) (k : Settings) (x y : Coordinate) (e : FieldBox) → k ≡ withMissing n (t .settings) → u ≡ withSettings k t → x ≡ coordinateOf (t .cursor .x) → y ≡ coordinateOf (t .cursor .y) → e ≡ fieldBox u → v ≡ withCursor (record { x = held (e .x) x; y = held (e .y) y }) NoPair u
+    → (p : Point) (o : Operand) → closeText n (record { point = p; text = t; operand = o }) ≡ aligned v (record { point = p; text = t; operand = o })
+unfolding closeText setCursor
+closed-of n t u v k x y e missing settings ahead upwards box put p o =
+    let m = settings ∙ ap (λ (z : Settings). withSettings z t) missing in
+    let b = box ∙ ap fieldBox m in
+    let w = put ∙ (λ i. withCursor (record { x = held (b i .x) (ahead i); y = held (b i .y) (upwards i) }) NoPair (m i)) in
+    sym (ap (λ (z : Text). aligned z (record { point = p; text = t; operand = o })) w)
 
 -- Rows and columns
 pub no-fields : (b n : ℕ) → b ≤ 32 → 0 ≡ (b - 32) * n

@@ -7,5 +7,5 @@ pub use native.Mathlib.Nat.{mul-le-mul, mul-le-mul-right, zero-mul, suc-mul, le-
 pub use native.Mathlib.Omega.{arith}
 pub use lib.Dec.{leb, eqb}
 pub use lib.ListN.{length, getD, set}
-pub use borrow.Author.Tests.{lt-ltb, le-ltb, le-leb, lt-leb, eq-eqb, ne-eqb, eqb-true}
+pub use borrow.Author.Tests.{lt-ltb, le-ltb, le-leb, lt-leb, eq-eqb, ne-eqb, eqb-true, not-true, not-false}
 pub use denote.Ref.{now}

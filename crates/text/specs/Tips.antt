@@ -17,4 +17,4 @@ penOf t x = record { point = x .point; text = caughtUp (x .behind) (x .point) t;
 
 -- The tip of a pen whose cursor is not behind
 abbrev pub tipOf : Pen → Tip
-tipOf s = record { behind = false; point = s .point; operand = s .operand }
+tipOf s = record { point = s .point; operand = s .operand; behind = false }

@@ -85,7 +85,7 @@ fn point_at(text: Text) -> Point
 }
 
 // The cursor that the point leads.
-fn cursor_at(text: Text, point: Point) -> Point
+pub(crate) fn cursor_at(text: Text, point: Point) -> Point
     ensures { λ c. ⌜ c ≡ cursorAt text point ⌝ }
 {
     let settings = text.settings;

@@ -1,13 +1,16 @@
 // TEXT: its two bytes, its closing, and the default settings.
 use crate::axis::coordinate_of;
-use crate::cursor::set_cursor;
+use crate::cursor::aligned;
+use crate::cursor::put_cursor;
 use crate::cursor::with_cursor;
+use crate::field::field_box;
 use rules::Due;
 use rules::FRESH_HEIGHT;
 use rules::FRESH_WIDTH;
 use rules::Interrow;
 use rules::Moving;
 use rules::ORIGIN;
+use rules::Operand;
 use rules::Pair;
 use rules::Path;
 use rules::Pen;
@@ -18,7 +21,7 @@ use rules::Spacing;
 use rules::Style;
 use rules::Text;
 ghost use mathlib.Core.Path.{_≡_};
-ghost use Rattle.rules.specs.Text.{coded, byteOne, byteTwo, withMissing, withSettings, withField, withFirst, withSecond, closeText, freshSettings, freshText, resetText};
+ghost use Rattle.rules.specs.Text.{coded, byteOne, byteTwo, withMissing, withSettings, withField, withFirst, withSecond, aligned, closeText, freshSettings, freshText, resetText};
 
 fn rotation_of(code: u8) -> Rotation
     ensures { λ r. ⌜ r ≡ coded code Rotation.Degrees0 Rotation.Degrees90 Rotation.Degrees180 Rotation.Degrees270 ⌝ }
@@ -203,24 +206,24 @@ fn with_settings(settings: Settings, text: Text) -> Text
     }
 }
 
-// Closes TEXT with so much of its operands read: the cursor is held on the screen, and the drawing point aligned.
+// The text once TEXT is closed with so much of its operands read: the cursor is held on the screen.
+pub fn closed_text(due: Due, text: Text) -> Text
+    ensures { λ u. ⌜ ((p : Point) (o : Operand) → closeText due (record { point = p; text = text; operand = o }) ≡ aligned u (record { point = p; text = text; operand = o })) ⌝ }
+{
+    let cursor = text.cursor;
+    let settings = with_missing(due, text.settings);
+    let text = with_settings(settings, text);
+    let x = coordinate_of(cursor.x);
+    let y = coordinate_of(cursor.y);
+    put_cursor(field_box(text), x, y, Pair::NoPair, text)
+}
+
+// Closes TEXT: the same, and the drawing point aligned.
 pub fn close_text(due: Due, pen: Pen) -> Pen
     ensures { λ r. ⌜ r ≡ closeText due pen ⌝ }
 {
-    let old = pen.text;
-    let cursor = old.cursor;
-    let settings = with_missing(due, old.settings);
-    let text = with_settings(settings, old);
-    let x = coordinate_of(cursor.x);
-    let y = coordinate_of(cursor.y);
-    let point = pen.point;
-    let operand = pen.operand;
-    let closed = Pen {
-        point,
-        text,
-        operand,
-    };
-    set_cursor(x, y, closed)
+    let text = closed_text(due, pen.text);
+    aligned(text, pen)
 }
 
 pub(crate) fn fresh_settings() -> Settings

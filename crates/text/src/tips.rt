@@ -1,17 +1,24 @@
 // A pen apart from its text. Following is absolute, so that it can wait until the text is looked at.
+use crate::cursor::cursor_at;
 use crate::cursor::follow;
+use crate::words::count;
+use crate::words::text_of;
+use rules::Moving;
 use rules::Operand;
+use rules::Pair;
 use rules::Pen;
 use rules::Point;
 use rules::Text;
 ghost use mathlib.Core.Path.{_≡_};
-ghost use Rattle.text.specs.Tips.{penOf, tipOf};
+ghost use Rattle.rules.specs.Text.{withCursor};
+ghost use Rattle.text.specs.Tips.{caughtUp, penOf, tipOf};
+ghost use Rattle.text.specs.Words.{textFrom};
 
 // The drawing point and the operand that is begun; behind says that the cursor has yet to follow the point.
 pub struct Tip {
-    pub behind: bool,
     pub point: Point,
     pub operand: Operand,
+    pub behind: bool,
 }
 
 // The tip of a pen whose cursor is not behind.
@@ -21,9 +28,9 @@ pub fn tip_of(pen: Pen) -> Tip
     let point = pen.point;
     let operand = pen.operand;
     Tip {
-        behind: false,
         point,
         operand,
+        behind: false,
     }
 }
 
@@ -42,4 +49,32 @@ pub fn pen_of(text: Text, tip: Tip) -> Pen
         return follow(pen, point);
     }
     pen
+}
+
+// The cursor set by the point, with no pair begun.
+fn put_led(words: &mut [u32; 9], cursor: Point)
+    ensures { λ _. ⌜ textFrom (now (words .exit)) ≡ withCursor cursor Pair.NoPair (textFrom (now (words .entry))) ⌝ }
+{
+    count(words);
+    words[2] = cursor.x;
+    words[3] = cursor.y;
+    words[6] = 0;
+}
+
+// The cursor follows the point, where it is behind.
+pub fn catch_up(words: &mut [u32; 9], behind: bool, point: Point)
+    ensures { λ _. ⌜ textFrom (now (words .exit)) ≡ caughtUp behind point (textFrom (now (words .entry))) ⌝ }
+{
+    if !behind {
+        return;
+    }
+    let text = text_of(words);
+    let settings = text.settings;
+    let moving = settings.moving;
+    match moving {
+        Moving::Together => put_led(words, cursor_at(text, point)),
+        Moving::CursorLeads => {}
+        Moving::PointLeads => put_led(words, cursor_at(text, point)),
+        Moving::Independent => {}
+    }
 }

@@ -16,7 +16,7 @@ use rules::Text;
 ghost use mathlib.Core.Path.{_≡_};
 ghost use Prim.Native.Nat.{_≤_, _%_};
 ghost use lib.ListN.{length};
-ghost use Rattle.rules.specs.Text.{coded, byteOne, byteTwo};
+ghost use Rattle.rules.specs.Text.{coded, byteOne, byteTwo, withFirst, withSecond, withField};
 ghost use Rattle.text.specs.Words.{pairFrom, textFrom, withFirstCodes, withSecondCodes};
 
 fn rotation_code(rotation: Rotation) -> u32
@@ -132,7 +132,7 @@ fn pair_words(pair: Pair) -> PairWords
 }
 
 // How many words there are: of an array that is lent this is known by a slice of it.
-fn count(words: &[u32; 9]) -> usize
+pub(crate) fn count(words: &[u32; 9]) -> usize
     ensures { λ _. ⌜ length (now (words .entry)) ≡ 9 ⌝ }
 {
     let words: &[u32] = words;
@@ -159,6 +159,31 @@ pub fn put_text(words: &mut [u32; 9], text: Text)
     words[6] = begun.state;
     words[7] = place.x;
     words[8] = place.y;
+}
+
+// The size of the character field.
+pub fn put_field(words: &mut [u32; 9], field: Point)
+    ensures { λ _. ⌜ textFrom (now (words .exit)) ≡ withField field (textFrom (now (words .entry))) ⌝ }
+{
+    count(words);
+    words[0] = field.x;
+    words[1] = field.y;
+}
+
+// TEXT's first byte put into the words.
+pub fn put_first(words: &mut [u32; 9], byte: u8)
+    ensures { λ _. ⌜ textFrom (now (words .exit)) ≡ withFirst byte (textFrom (now (words .entry))) ⌝ }
+{
+    count(words);
+    words[4] = byte as u32;
+}
+
+// TEXT's second byte.
+pub fn put_second(words: &mut [u32; 9], byte: u8)
+    ensures { λ _. ⌜ textFrom (now (words .exit)) ≡ withSecond byte (textFrom (now (words .entry))) ⌝ }
+{
+    count(words);
+    words[5] = byte as u32;
 }
 
 fn pair_of(words: &[u32; 9]) -> Pair

@@ -1,38 +1,19 @@
-use Rattle.text.proofs.MoverLaws.{close-of}
+use Rattle.text.specs.Prelude.{sym, _∙_}
 use borrow.Author.Needs.{needs}
 use Rattle.text.proofs.settings.close_text.Statement.{statement}
 use Rattle.text.proofs.settings.close_text.Tie as tie
 
-with-missing-requires : tie.Need-with-missing-requires
-with-missing-requires c κs = search needs
+closed-text-requires : tie.Need-closed-text-requires
+closed-text-requires c κs = search needs
 
-with-settings-requires : tie.Need-with-settings-requires
-with-settings-requires c κs = search needs
-
-coordinate-of-requires : tie.Need-coordinate-of-requires
-coordinate-of-requires c κs = search needs
-
-coordinate-of-requires-2 : tie.Need-coordinate-of-requires-2
-coordinate-of-requires-2 c κs = search needs
-
-set-cursor-requires : tie.Need-set-cursor-requires
-set-cursor-requires c κs = search needs
+aligned-requires : tie.Need-aligned-requires
+aligned-requires c κs = search needs
 
 returns : tie.Need-returns
 returns c =
-    let with-missing· = c .before .before .before .before .before .before .with-missing in
-    let with-settings· = c .before .before .before .before .before .with-settings in
-    let coordinate-of· = c .before .before .before .before .coordinate-of in
-    let coordinate-of2· = c .before .before .before .coordinate-of2 in
-    close-of _ _ _ _ _ _ _ (with-missing· .ensures) (with-settings· .ensures) (coordinate-of· .ensures .0) (coordinate-of2· .ensures .0) (c .set-cursor .ensures)
+    let pen· = c .before .before .args .pen in
+    let closed-text· = c .before .closed-text in
+    c .aligned .ensures ∙ sym (closed-text· .ensures (pen· .point) (pen· .operand))
 
 pub close-text-spec : {M : Type 1} → statement M
-close-text-spec =
-    tie.close
-    (tie.spec
-    with-missing-requires
-    with-settings-requires
-    coordinate-of-requires
-    coordinate-of-requires-2
-    set-cursor-requires
-    returns)
+close-text-spec = tie.close (tie.spec closed-text-requires aligned-requires returns)
