@@ -36,7 +36,8 @@ use Rattle.records.specs.Bytes.{overwrite, headOf, headBytes}
 use Rattle.records.proofs.Heads.{record-bytes, head-code}
 use Rattle.figures.specs.Carried.{Carried, drawingOf}
 use Rattle.figures.specs.Tracing.{Inks, penAt}
-use Rattle.text.specs.Line.{Advances, packed, unpacked, placeAfter, Straight}
+use Rattle.moves.specs.Advance.{Advances}
+use Rattle.text_lines.specs.Line.{packed, unpacked, placeAfter, Straight}
 use Rattle.figures.proofs.Carrying.{carry-one}
 use Rattle.drawing_runs.specs.Run.{ActsAs, Run, none, more, standing}
 use Rattle.drawing_runs.specs.Strokes.{rested}

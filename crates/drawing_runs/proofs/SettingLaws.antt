@@ -21,8 +21,8 @@ use Rattle.rules.specs.Drawing.{row, rows, rowOf, roleOf, advanced, dueAfter, l
 use Rattle.rules.specs.Ranges.{domainFits}
 use Rattle.operands.specs.declared.whole.Whole.the-variants.{Whole as Whole·point}
 use Rattle.operands.specs.Data.{wholeOf}
-use Rattle.text.specs.Tips.{caughtUp}
-use Rattle.text.specs.declared.tips.Tip.{Tip}
+use Rattle.pens.specs.Tips.{caughtUp}
+use Rattle.pens.specs.declared.tips.Tip.{Tip}
 use Rattle.figures.specs.Carried.{Carried, drawingOf}
 use Rattle.figures.specs.Tracing.{penAt}
 use Rattle.figures.proofs.Carrying.{carry-none}

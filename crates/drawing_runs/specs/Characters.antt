@@ -20,7 +20,7 @@ use Rattle.rules.specs.Drawing.{Draw, newCommand, close}
 use Rattle.records.specs.Bytes.{headOf, headBytes}
 use Rattle.figures.specs.Carried.{Carried, drawingOf}
 use Rattle.figures.specs.Tracing.{Inks}
-use Rattle.text.specs.Line.{unpacked}
+use Rattle.text_lines.specs.Line.{unpacked}
 use Rattle.drawing_runs.specs.declared.lines.Common.{Common}
 use Rattle.drawing_runs.specs.Run.{Run, standing}
 use Rattle.drawing_runs.specs.Strokes.{rested}

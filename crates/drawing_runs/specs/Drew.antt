@@ -4,8 +4,8 @@ use Rattle.rules.specs.declared.Command.{Command}
 use Rattle.rules.specs.declared.Look.{Look}
 use Rattle.rules.specs.declared.Set.{Set}
 use Rattle.rules.specs.declared.Text.{Text}
-use Rattle.text.specs.Tips.{penOf}
-use Rattle.text.specs.declared.tips.Tip.{Tip}
+use Rattle.pens.specs.Tips.{penOf}
+use Rattle.pens.specs.declared.tips.Tip.{Tip}
 use Rattle.drawing_runs.specs.declared.Drew.{Drew}
 use Rattle.drawing_runs.specs.Run.{Run, standing}
 

@@ -9,7 +9,7 @@ use rules::Pen;
 use rules::Point;
 use rules::RECORD_SIZE;
 use rules::ROOM_FOR_STEP;
-use text::tips::Tip;
+use pens::tips::Tip;
 ghost use Prim.Native.Nat.{ℕ, _+_, _*_, _<_, _≤_};
 ghost use Rattle.rules.specs.Numbers.{roomForStep};
 

@@ -1,4 +1,5 @@
 // Characters on one line.
+use moves::characters::spaces;
 use records::Head;
 use records::head_of;
 use records::put_words;
@@ -10,17 +11,16 @@ use rules::Point;
 use rules::RECORD_SIZE;
 use rules::Repertoire;
 use rules::Text;
-use text::characters::spaces;
 use text::cursor::with_cursor;
-use text::lines::line_of;
-use text::lines::packed;
-use text::lines::unpacked;
+use text_lines::line_of;
+use text_lines::packed;
+use text_lines::unpacked;
 ghost use mathlib.Core.Path.{_≡_};
 ghost use mathlib.Core.Bool.{Bool, true, false};
 ghost use Prim.Native.Nat.{_+_, _-_, _≤_};
 ghost use lib.ListN.{length};
 ghost use Rattle.rules.specs.Text.{spaces};
-ghost use Rattle.text.specs.Line.{Straight};
+ghost use Rattle.text_lines.specs.Line.{Straight};
 ghost use Rattle.drawing_runs.specs.Characters.{lastCharacter, IsCharacter, Room, IsCommon, Goes, lineMoved, lineText};
 
 // 7/15 of the primary and supplementary sets does nothing.

@@ -19,8 +19,8 @@ use Rattle.rules.specs.Ranges.{drawingFits}
 use Rattle.rules.specs.Reading.{Room, reading, Valid}
 use Rattle.rules.specs.Calls.{handed}
 use Rattle.rules.proofs.Bools.{true-false}
-use Rattle.text.specs.Tips.{penOf}
-use Rattle.text.specs.declared.tips.Tip.{Tip}
+use Rattle.pens.specs.Tips.{penOf}
+use Rattle.pens.specs.declared.tips.Tip.{Tip}
 use Rattle.figures.specs.declared.Drawn.{Drawn}
 use Rattle.figures.specs.Carried.{carry, drawingOf, carriedOf}
 use Rattle.bodies.specs.Stack.{bodiesOf}

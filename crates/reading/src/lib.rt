@@ -1,10 +1,10 @@
 // A reading of a piece, turn by turn and run by run, as far as the output has room.
+use pens::words::put_text;
+use pens::words::text_of;
 use rules::Answer;
 use rules::Fed;
 use rules::Refusal;
 use rules::Session;
-use text::words::put_text;
-use text::words::text_of;
 use turn_runs::run::run;
 use turns::handing::finish;
 use turns::handing::start;

@@ -1,5 +1,2 @@
 pub mod AxisLaws
-pub mod MoverLaws
-pub mod LineLaws
-pub mod WordLaws
-pub mod TipLaws
+pub mod SettingLaws

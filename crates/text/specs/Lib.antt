@@ -1,4 +1,1 @@
 pub mod Prelude
-pub mod Line
-pub mod Tips
-pub mod Words

@@ -10,10 +10,10 @@ ghost use Rattle.rules.specs.Text.{trunc256, min, max, magnitude, coordinateOf,
 const NEGATIVE: u32 = 0x8000_0000;
 
 // The last multiple of 256 on the screen.
-pub(crate) const LAST: u64 = 0x7FFF_FF00;
+pub const LAST: u64 = 0x7FFF_FF00;
 
 // The number of patterns.
-pub(crate) const PATTERNS: u64 = 0x1_0000_0000;
+pub const PATTERNS: u64 = 0x1_0000_0000;
 
 // Toward zero, to a multiple of 256.
 fn trunc256(n: u64) -> u64
@@ -22,7 +22,7 @@ fn trunc256(n: u64) -> u64
     n / 256 * 256
 }
 
-pub(crate) fn min(a: u64, b: u64) -> u64
+pub fn min(a: u64, b: u64) -> u64
     ensures { λ r. ⌜ r ≡ min a b ⌝ }
 {
     if a <= b {
@@ -41,7 +41,7 @@ fn max(a: u64, b: u64) -> u64
 }
 
 // A difference, zero where it would be negative.
-pub(crate) fn less(a: u64, b: u64) -> u64
+pub fn less(a: u64, b: u64) -> u64
     ensures { λ r. ⌜ r ≡ a - b ⌝ }
 {
     if a <= b {
@@ -51,7 +51,7 @@ pub(crate) fn less(a: u64, b: u64) -> u64
 }
 
 // What a pattern stands for, without its sign.
-pub(crate) fn magnitude(n: u32) -> u32
+pub fn magnitude(n: u32) -> u32
     ensures { λ r. ⌜ (r ≡ magnitude n) × (r ≤ 2147483648) ⌝ }
 {
     if n < NEGATIVE {
@@ -61,7 +61,7 @@ pub(crate) fn magnitude(n: u32) -> u32
 }
 
 // The coordinate that a pattern stands for.
-pub(crate) fn coordinate_of(n: u32) -> Coordinate
+pub fn coordinate_of(n: u32) -> Coordinate
     ensures { λ r. ⌜ (r ≡ coordinateOf n) × (r .ahead ≤ 4294967295) × (r .back ≤ 4294967296) ⌝ }
 {
     let ahead = n as u64;
@@ -75,7 +75,7 @@ pub(crate) fn coordinate_of(n: u32) -> Coordinate
 }
 
 // Whether the field is on the screen with its origin at a coordinate: touching the edge is inside.
-pub(crate) fn field_fits(reach: Reach, at: Coordinate) -> bool
+pub fn field_fits(reach: Reach, at: Coordinate) -> bool
     ensures { λ b. ⌜ b ≡ fieldFits reach at ⌝ }
 {
     let before = reach.before as u64;
@@ -85,7 +85,7 @@ pub(crate) fn field_fits(reach: Reach, at: Coordinate) -> bool
 }
 
 // Held on the screen: every cursor that is set goes through this.
-pub(crate) fn held(reach: Reach, at: Coordinate) -> u32
+pub fn held(reach: Reach, at: Coordinate) -> u32
     ensures { λ h. ⌜ h ≡ held reach at ⌝ }
 {
     let x = less(at.ahead, at.back);
@@ -95,7 +95,7 @@ pub(crate) fn held(reach: Reach, at: Coordinate) -> u32
 }
 
 // An advance or a row step: so many quarters of the field's extent.
-pub(crate) fn stride(reach: Reach, quarters: u8) -> u64
+pub fn stride(reach: Reach, quarters: u8) -> u64
     ensures { λ n. ⌜ (n ≡ stride reach quarters) × (n < 1099511627776) ⌝ }
 {
     let extent = reach.before as u64 + reach.after as u64;
@@ -103,7 +103,7 @@ pub(crate) fn stride(reach: Reach, quarters: u8) -> u64
 }
 
 // The coordinate a stride further.
-pub(crate) fn after_stride(reach: Reach, forwards: bool, quarters: u8, cursor: u32) -> Coordinate
+pub fn after_stride(reach: Reach, forwards: bool, quarters: u8, cursor: u32) -> Coordinate
     ensures { λ r. ⌜ r ≡ afterStride reach forwards quarters cursor ⌝ }
 {
     let length = stride(reach, quarters);
@@ -121,7 +121,7 @@ pub(crate) fn after_stride(reach: Reach, forwards: bool, quarters: u8, cursor: u
 }
 
 // The edge that a field comes in by when it moves forwards, and backwards.
-pub(crate) fn entry_edge(reach: Reach, forwards: bool) -> Coordinate
+pub fn entry_edge(reach: Reach, forwards: bool) -> Coordinate
     ensures { λ p. ⌜ p ≡ entryEdge reach forwards ⌝ }
 {
     if forwards {
@@ -135,7 +135,7 @@ pub(crate) fn entry_edge(reach: Reach, forwards: bool) -> Coordinate
 }
 
 // A row step along an axis: the place a stride further, or the edge that the field comes in by.
-pub(crate) fn row_step(reach: Reach, forwards: bool, quarters: u8, cursor: u32) -> Coordinate
+pub fn row_step(reach: Reach, forwards: bool, quarters: u8, cursor: u32) -> Coordinate
     ensures { λ r. ⌜ r ≡ rowStep reach forwards quarters cursor ⌝ }
 {
     let next = after_stride(reach, forwards, quarters, cursor);

@@ -85,7 +85,7 @@ fn point_at(text: Text) -> Point
 }
 
 // The cursor that the point leads.
-pub(crate) fn cursor_at(text: Text, point: Point) -> Point
+pub fn cursor_at(text: Text, point: Point) -> Point
     ensures { λ c. ⌜ c ≡ cursorAt text point ⌝ }
 {
     let settings = text.settings;
@@ -172,13 +172,7 @@ pub fn follow(pen: Pen, point: Point) -> Pen
 }
 
 // The cursor put at two coordinates, each held on the screen in the field's box.
-pub(crate) fn put_cursor(
-    bounds: FieldBox,
-    x: Coordinate,
-    y: Coordinate,
-    pair: Pair,
-    text: Text,
-) -> Text
+pub fn put_cursor(bounds: FieldBox, x: Coordinate, y: Coordinate, pair: Pair, text: Text) -> Text
     ensures { λ u. ⌜ u ≡ withCursor (record { x = held (bounds .x) x; y = held (bounds .y) y }) pair text ⌝ }
 {
     let settings = text.settings;
@@ -208,7 +202,7 @@ pub fn aligned(text: Text, pen: Pen) -> Pen
 }
 
 // The cursor set, held on the screen, and the drawing point with it as the move attribute says.
-pub(crate) fn set_cursor(x: Coordinate, y: Coordinate, pen: Pen) -> Pen
+pub fn set_cursor(x: Coordinate, y: Coordinate, pen: Pen) -> Pen
     ensures { λ r. ⌜ r ≡ setCursor x y pen ⌝ }
 {
     let bounds = field_box(pen.text);

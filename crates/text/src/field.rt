@@ -67,7 +67,7 @@ fn box_of(rotation: Rotation, field: Point) -> FieldBox
 }
 
 // The intercharacter spacing in quarters of the field; proportional counts as 1.
-pub(crate) fn spacing_quarters(s: Spacing) -> u8
+pub fn spacing_quarters(s: Spacing) -> u8
     ensures { λ n. ⌜ n ≡ spacingQuarters s ⌝ }
 {
     match s {
@@ -79,7 +79,7 @@ pub(crate) fn spacing_quarters(s: Spacing) -> u8
 }
 
 // The interrow spacing in quarters of the field.
-pub(crate) fn interrow_quarters(s: Interrow) -> u8
+pub fn interrow_quarters(s: Interrow) -> u8
     ensures { λ n. ⌜ n ≡ interrowQuarters s ⌝ }
 {
     match s {
@@ -90,7 +90,7 @@ pub(crate) fn interrow_quarters(s: Interrow) -> u8
     }
 }
 
-pub(crate) fn field_box(text: Text) -> FieldBox
+pub fn field_box(text: Text) -> FieldBox
     ensures { λ e. ⌜ e ≡ boxOf (text .settings .rotation) (text .field) ⌝ }
 {
     let settings = text.settings;

@@ -113,7 +113,7 @@ fn style_of(code: u8) -> Style
     Style::Custom
 }
 
-pub(crate) fn byte_one(byte: u8, settings: Settings) -> Settings
+pub fn byte_one(byte: u8, settings: Settings) -> Settings
     ensures { λ r. ⌜ r ≡ byteOne byte settings ⌝ }
 {
     let rotation = rotation_of(byte % 4);
@@ -132,7 +132,7 @@ pub(crate) fn byte_one(byte: u8, settings: Settings) -> Settings
     }
 }
 
-pub(crate) fn byte_two(byte: u8, settings: Settings) -> Settings
+pub fn byte_two(byte: u8, settings: Settings) -> Settings
     ensures { λ r. ⌜ r ≡ byteTwo byte settings ⌝ }
 {
     let rotation = settings.rotation;
@@ -226,7 +226,7 @@ pub fn close_text(due: Due, pen: Pen) -> Pen
     aligned(text, pen)
 }
 
-pub(crate) fn fresh_settings() -> Settings
+pub fn fresh_settings() -> Settings
     ensures { λ r. ⌜ r ≡ freshSettings ⌝ }
 {
     Settings {

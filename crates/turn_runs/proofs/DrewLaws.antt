@@ -11,8 +11,8 @@ use Rattle.rules.specs.declared.Text.{Text}
 use Rattle.rules.specs.Drawing.{noOperand}
 use Rattle.rules.specs.Text.{following}
 use Rattle.rules.proofs.TextLaws.{follow-follow}
-use Rattle.text.specs.Tips.{caughtUp, penOf, tipOf}
-use Rattle.text.specs.declared.tips.Tip.{Tip}
+use Rattle.pens.specs.Tips.{caughtUp, penOf, tipOf}
+use Rattle.pens.specs.declared.tips.Tip.{Tip}
 use Rattle.drawing_runs.specs.Run.{Run, standing, RunsTo}
 use Rattle.drawing_runs.specs.Strokes.{penAfter, PassesTo}
 use Rattle.drawing_runs.specs.declared.Passed.{Passed}

@@ -6,8 +6,8 @@ use Rattle.rules.specs.declared.Point.{Point}
 use Rattle.rules.specs.declared.Set.{Set}
 use Rattle.rules.specs.declared.Text.{Text}
 use Rattle.rules.specs.Drawing.{noOperand}
-use Rattle.text.specs.Tips.{penOf}
-use Rattle.text.specs.declared.tips.Tip.{Tip}
+use Rattle.pens.specs.Tips.{penOf}
+use Rattle.pens.specs.declared.tips.Tip.{Tip}
 use Rattle.drawing_runs.specs.Run.{Run, standing}
 use Rattle.turn_runs.specs.declared.drawn.Drew.{Drew}
 

@@ -7,8 +7,8 @@ use Rattle.rules.specs.Record.{bytesOfAll}
 use Rattle.rules.specs.Step.{State, removeSpent}
 use Rattle.rules.specs.Turn.{Taken, Takes, turn}
 use Rattle.rules.specs.Reading.{consumedBy, stepsLeft, Valid}
-use Rattle.text.specs.Tips.{penOf}
-use Rattle.text.specs.Words.{textFrom}
+use Rattle.pens.specs.Tips.{penOf}
+use Rattle.pens.specs.Words.{textFrom}
 use Rattle.records.specs.Bytes.{overwrite}
 use Rattle.store.specs.Lent.{Sized}
 use Rattle.store.specs.Stretch.{Gives}

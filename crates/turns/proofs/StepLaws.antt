@@ -26,8 +26,8 @@ use Rattle.rules.specs.Turn.{onMove}
 use Rattle.rules.specs.Reading.{consumedBy}
 use Rattle.rules.specs.Step.{State, withBodies, Move, onOutcome, call, onReaction, opensInside, interpret}
 use Rattle.rules.proofs.Bools.{true-false, false-true}
-use Rattle.text.specs.Tips.{penOf}
-use Rattle.text.specs.declared.tips.Tip.{Tip}
+use Rattle.pens.specs.Tips.{penOf}
+use Rattle.pens.specs.declared.tips.Tip.{Tip}
 use Rattle.records.proofs.Writes.{overwrite-none}
 use Rattle.figures.specs.declared.Drawn.{Drawn}
 use Rattle.figures.specs.Carried.{Carried, carry, drawingOf, carriedOf}

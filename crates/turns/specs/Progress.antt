@@ -4,7 +4,7 @@ use Rattle.rules.specs.declared.Sets.{Sets}
 use Rattle.rules.specs.declared.Waiting.{Waiting}
 use Rattle.rules.specs.declared.Session.{Session}
 use Rattle.figures.specs.declared.Drawn.{Drawn}
-use Rattle.text.specs.Tips.{tipOf}
+use Rattle.pens.specs.Tips.{tipOf}
 use Rattle.turns.specs.declared.progress.Progress.{Progress}
 use Rattle.turns.specs.declared.progress.Reached.{Reached}
 

@@ -1,6 +1,8 @@
 // Where a reading starts from a session, and what it hands over when it ends.
 use crate::progress::Progress;
 use crate::progress::Reached;
+use pens::tips::pen_of;
+use pens::tips::tip_of;
 use rules::Answer;
 use rules::Bodies;
 use rules::Coding;
@@ -9,10 +11,8 @@ use rules::Fed;
 use rules::Session;
 use rules::Status;
 use rules::Text;
-use text::tips::pen_of;
-use text::tips::tip_of;
 ghost use mathlib.Core.Path.{_≡_};
-ghost use Rattle.text.specs.Tips.{penOf};
+ghost use Rattle.pens.specs.Tips.{penOf};
 ghost use Rattle.figures.specs.Carried.{drawingOf};
 ghost use Rattle.turns.specs.Progress.{startOf};
 ghost use Rattle.turns.specs.View.{statusAfter, sessionAfter};

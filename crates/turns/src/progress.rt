@@ -1,11 +1,11 @@
 // How far a reading has come, and each way in which it goes on.
 use figures::Drawn;
+use pens::tips::Tip;
+use pens::tips::tip_of;
 use rules::Command;
 use rules::Look;
 use rules::Sets;
 use rules::Waiting;
-use text::tips::Tip;
-use text::tips::tip_of;
 ghost use mathlib.Core.Path.{_≡_};
 ghost use Prim.Native.Nat.{_+_, _≤_, _<_};
 ghost use Rattle.turns.specs.Progress.{stepsTo, atDepth, codedOn, placeAfter, ranOn, drawnTo};

@@ -1,6 +1,6 @@
 use Rattle.reading.proofs.Prelude.{now, needs, arith, refl, sym, ap, _∙_, _-_}
-use Rattle.text.specs.Tips.{penOf}
-use Rattle.text.specs.Words.{textFrom}
+use Rattle.pens.specs.Tips.{penOf}
+use Rattle.pens.specs.Words.{textFrom}
 use Rattle.figures.specs.Carried.{drawingOf}
 use Rattle.turns.specs.declared.progress.Reached.{Reached}
 use Rattle.turns.specs.View.{stateAt}

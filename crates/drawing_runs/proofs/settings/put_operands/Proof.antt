@@ -1,7 +1,7 @@
 use Rattle.drawing_runs.specs.Prelude.{_+_, _-_, _≤_, arith, _≡_, refl, ap, _∙_, now}
 use Rattle.rules.specs.declared.Command.{Command}
 use Rattle.rules.specs.declared.Look.{Look}
-use Rattle.text.specs.Words.{textFrom}
+use Rattle.pens.specs.Words.{textFrom}
 use Rattle.drawing_runs.specs.Settings.{SetsTo}
 use Rattle.drawing_runs.proofs.SettingLaws.{none-set, sets-on, sets-then, sets-end, command-on}
 use borrow.Author.Needs.{needs}

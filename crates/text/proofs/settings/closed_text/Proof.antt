@@ -1,4 +1,4 @@
-use Rattle.text.proofs.MoverLaws.{closed-of}
+use Rattle.text.proofs.SettingLaws.{closed-of}
 use borrow.Author.Needs.{needs}
 use Rattle.text.proofs.settings.closed_text.Statement.{statement}
 use Rattle.text.proofs.settings.closed_text.Tie as tie

@@ -1,4 +1,4 @@
-use Rattle.text.proofs.MoverLaws.{complete-first, complete-second, complete-third, complete-past}
+use Rattle.text.proofs.SettingLaws.{complete-first, complete-second, complete-third, complete-past}
 use borrow.Author.Needs.{needs}
 use Rattle.text.proofs.settings.with_missing.Statement.{statement}
 use Rattle.text.proofs.settings.with_missing.Tie as tie

@@ -1,6 +1,6 @@
 use Rattle.turn_runs.specs.Prelude.{now, arith, refl, ap, ℕ, List, [], needs}
-use Rattle.text.specs.Tips.{penOf}
-use Rattle.text.specs.Words.{textFrom}
+use Rattle.pens.specs.Tips.{penOf}
+use Rattle.pens.specs.Words.{textFrom}
 use Rattle.turns.specs.declared.progress.Reached.{Reached}
 use Rattle.figures.specs.Carried.{drawingOf}
 use Rattle.rules.proofs.Steps.{valid-store, valid-depth}

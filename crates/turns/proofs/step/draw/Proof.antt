@@ -2,7 +2,7 @@ use Rattle.turns.specs.Prelude.{_≡_, sym, ap, _∙_, true, now, needs}
 use Rattle.rules.specs.declared.Pen.{Pen}
 use Rattle.rules.specs.Drawing.{act}
 use Rattle.rules.specs.Ranges.{drawingFits}
-use Rattle.text.specs.Words.{textFrom}
+use Rattle.pens.specs.Words.{textFrom}
 use Rattle.figures.specs.Carried.{carryOut, drawingOf}
 use Rattle.bodies.specs.Stack.{bodiesOf}
 use Rattle.turns.proofs.StepLaws.{on-refused, on-drawn, text-kept, text-drawn, pen-together}
