@@ -1,3 +1,4 @@
 pub mod PointLaws
 pub mod OpeningLaws
 pub mod CommandLaws
+pub mod EffectorLaws

@@ -1,4 +1,5 @@
 // A run of the PDI set: points that come whole, opcodes and recorded controls.
+pub mod effectors;
 pub mod opening;
 pub mod points;
 

@@ -159,7 +159,7 @@ fn put_characters(
 }
 
 // The control that a byte is; one from 2/0 on does nothing as such.
-fn control_of(code: u8) -> Control
+pub fn control_of(code: u8) -> Control
     ensures { λ r. ⌜ ((f : Effector) → r ≡ Control.Formats f → IsFormat f code) ⌝ }
 {
     let class = class_of(code);

@@ -20,11 +20,6 @@ use Rattle.drawing_runs.specs.declared.Ran.{Ran}
 use Rattle.turn_runs.specs.Drew.{tipAfter, DrawsTo}
 use Rattle.turn_runs.specs.declared.drawn.Drew.{Drew}
 
--- A text whose cursor is behind follows the next point as if it were not
-caught-follows : (b : Bool) (t : Text) (p q : Point) → following (caughtUp b p t .settings .moving) q (caughtUp b p t) ≡ following (t .settings .moving) q t
-caught-follows true t p q = ap (λ (s : Pen). s .text) (follow-follow q p (record { point = p; text = t; operand = noOperand }))
-caught-follows false t p q = refl
-
 after-tip : (t : Text) (n : ℕ) (w : Bool) (x : Tip) (q : Point) → penAfter n w (penOf t x) q ≡ penOf t (tipAfter n w q x)
 after-tip t zero w x q = refl
 after-tip t (suc n) true x q = λ i. record { point = q; text = caught-follows (x .behind) t (x .point) q i; operand = noOperand }

@@ -1,5 +1,5 @@
 use Rattle.command_runs.specs.Prelude.{arith, sym, _∙_, needs}
-use Rattle.command_runs.proofs.PointLaws.{cut-whole}
+use Rattle.drawing_runs.proofs.RunLaws.{cut-whole}
 use Rattle.command_runs.proofs.points.point_due.Statement.{statement}
 use Rattle.command_runs.proofs.points.point_due.Tie as tie
 
