@@ -83,16 +83,7 @@ pub fn run_format(
     let control = control_of(byte);
     if let Control::Formats(effector) = control {
         let ink = head_of(look, 0, 0, 0, 0);
-        let next = mark_next(
-            byte,
-            row,
-            tip.point,
-            command,
-            ink,
-            look.domain.pel,
-            out,
-            at,
-        );
+        let next = mark_next(byte, row, tip.point, command, ink, look.domain.pel, out, at);
         let behind = either(tip.behind, next.moved);
         let tip = format_words(words, effector, behind, next.point);
         let command = next.command;

@@ -190,9 +190,9 @@ typed-on k g bytes from at first p₀ p₁ n p q cursor field out before least m
     let x = k .set in
     step-on k bytes from at first p₀ p₁ n p q out (Character x b) (typed x b) (λ e. characterRecord (e .look) (setNumber x) b (e .pen .text)) before (λ l t. acts x b least (rw (t .last-is) at most)) (type-marks x b) (typed-rested x b p ∙ ap rested (sym f)) room
     (λ l m t. let e = head-code g (k .head) l 6 0 (setNumber x) 0 b (u .cursor) (u .field) origin (t .head-is (u .cursor) (u .field) origin) coded in
-        w
-        ∙ (λ i. overwrite (at + 40 * n) (headBytes g ++ words (sym ce i) ++ words (sym fe i) ++ words origin ++ words (t .pel-is i)) out)
-        ∙ ap (λ (bs : List ℕ). overwrite (at + 40 * n) bs out) (record-bytes (recordOf l 6 0 (setNumber x) b (u .cursor) (u .field) origin) g e))
+    w
+    ∙ (λ i. overwrite (at + 40 * n) (headBytes g ++ words (sym ce i) ++ words (sym fe i) ++ words origin ++ words (t .pel-is i)) out)
+    ∙ ap (λ (bs : List ℕ). overwrite (at + 40 * n) bs out) (record-bytes (recordOf l 6 0 (setNumber x) b (u .cursor) (u .field) origin) g e))
 
 -- The text goes on alone
 

@@ -4,12 +4,12 @@ mod lines;
 pub mod settings;
 pub mod strokes;
 
+use pens::tips::Tip;
 use rules::Command;
 use rules::Pen;
 use rules::Point;
 use rules::RECORD_SIZE;
 use rules::ROOM_FOR_STEP;
-use pens::tips::Tip;
 ghost use Prim.Native.Nat.{ℕ, _+_, _*_, _<_, _≤_};
 ghost use Rattle.rules.specs.Numbers.{roomForStep};
 

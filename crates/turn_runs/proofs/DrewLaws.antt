@@ -1,5 +1,5 @@
 -- The tip after a run, put together with a text
-use Rattle.turn_runs.specs.Prelude.{ℕ, zero, suc, Bool, true, false, List, _≡_, refl, sym, ap, _∙_}
+use Rattle.turn_runs.specs.Prelude.{ℕ, zero, suc, _+_, _≤_, arith, Bool, true, false, List, length, _≡_, refl, sym, ap, _∙_, subst}
 use Rattle.rules.specs.declared.Command.{Command}
 use Rattle.rules.specs.declared.Look.{Look}
 use Rattle.rules.specs.declared.Operand.{Operand}
@@ -8,17 +8,21 @@ use Rattle.rules.specs.declared.Point.{Point}
 use Rattle.rules.specs.declared.Set.{Set}
 use Rattle.rules.specs.declared.Set.the-variants.{Pdi}
 use Rattle.rules.specs.declared.Text.{Text}
-use Rattle.rules.specs.Drawing.{noOperand}
-use Rattle.rules.specs.Text.{following}
-use Rattle.rules.proofs.TextLaws.{follow-follow}
+use Rattle.rules.specs.Drawing.{noOperand, Draw}
+use Rattle.rules.proofs.RecordCount.{AtMost, act-most}
 use Rattle.pens.specs.Tips.{caughtUp, penOf, tipOf}
 use Rattle.pens.specs.declared.tips.Tip.{Tip}
-use Rattle.drawing_runs.specs.Run.{Run, standing, RunsTo}
+use Rattle.pens.proofs.TipLaws.{caught-follows}
+use Rattle.figures.specs.Carried.{Carried}
+use Rattle.figures.proofs.Carrying.{carry-most, carry-length}
+use Rattle.drawing_runs.specs.Run.{Run, none, more, standing, RunsTo}
 use Rattle.drawing_runs.specs.Strokes.{penAfter, PassesTo}
 use Rattle.drawing_runs.specs.declared.Passed.{Passed}
 use Rattle.drawing_runs.specs.declared.Ran.{Ran}
-use Rattle.turn_runs.specs.Drew.{tipAfter, DrawsTo}
-use Rattle.turn_runs.specs.declared.drawn.Drew.{Drew}
+use Rattle.drawing_runs.specs.declared.Drew.{Drew}
+use Rattle.drawing_runs.specs.Drew.{DrawsTo}
+use Rattle.drawing_runs.proofs.RunLaws.{run-then}
+use Rattle.turn_runs.specs.Drew.{tipAfter}
 
 after-tip : (t : Text) (n : ℕ) (w : Bool) (x : Tip) (q : Point) → penAfter n w (penOf t x) q ≡ penOf t (tipAfter n w q x)
 after-tip t zero w x q = refl
@@ -42,10 +46,29 @@ pub passes-draws : (bytes : List ℕ) (from : ℕ) (x y : Tip) (c : Command) (l 
 passes-draws bytes from x y c l at out r left passes e t m =
     rw (e, ← after-tip t (r .count) (r .moved) x (r .point)) (passes (caughtUp (x .behind) (x .point) t) m)
 
--- Characters leave the pen that they are told to
-pub types-draws : (s : Set) (bytes : List ℕ) (from : ℕ) (t u v : Text) (x y : Tip) (p : Pen) (c : Command) (l : Look) (at : ℕ) (out : List ℕ) (r : Ran) (left : List ℕ)
-    → p ≡ penOf u x → u ≡ t → v ≡ r .pen .text → y ≡ tipOf (r .pen)
-    → RunsTo s bytes from p c l at out r left
+-- Characters leave the pen that they are told to, once the cursor is not behind
+pub types-draws : (s : Set) (bytes : List ℕ) (from : ℕ) (t u v : Text) (x y : Tip) (c : Command) (l : Look) (at : ℕ) (out : List ℕ) (r : Ran) (left : List ℕ)
+    → u ≡ caughtUp (x .behind) (x .point) t → v ≡ r .pen .text → y ≡ tipOf (r .pen)
+    → RunsTo s bytes from (record { point = x .point; text = u; operand = x .operand }) c l at out r left
     → DrawsTo s bytes from t x c l at out (record { count = r .count; at = r .at; tip = y; command = r .command }) v left
-types-draws s bytes from t u v x y p c l at out r left e f g h runs m =
-    rw (h, g, ← (e ∙ ap (λ (z : Text). penOf z x) f)) (runs m)
+types-draws s bytes from t u v x y c l at out r left e g h runs m = rw (h, g, ← e) (runs m)
+
+-- No operand is begun after them
+pub tip-fresh : (n : ℕ) (w : Bool) (q : Point) (x : Tip) → x .operand .count ≡ 0 → tipAfter n w q x .operand .count ≡ 0
+tip-fresh zero w q x e = e
+tip-fresh (suc n) true q x e = refl
+tip-fresh (suc n) false q x e = refl
+
+-- A run after a run
+pub draws-then : (s : Set) (bytes : List ℕ) (from n : ℕ) (t u v : Text) (x y : Tip) (c d : Command) (l : Look) (at at₁ : ℕ) (out out₁ out₂ : List ℕ) (r : Drew)
+    → DrawsTo s bytes from t x c l at out (record { count = n; at = at₁; tip = y; command = d }) u out₁
+    → DrawsTo s bytes (from + n) u y d l at₁ out₁ r v out₂
+    → DrawsTo s bytes from t x c l at out (record { count = n + r .count; at = r .at; tip = r .tip; command = r .command }) v out₂
+draws-then s bytes from n t u v x y c d l at at₁ out out₁ out₂ r a b m = run-then (a m) (b m)
+
+-- The records of a run lie within its output
+pub run-within : {s : Set} {bytes : List ℕ} {from n : ℕ} {x y : Carried} → Run s bytes from x n y → x .at ≤ length (x .output) → y .at ≤ length (y .output)
+run-within none h = h
+run-within (more {n} {y} {a} {e} {rs} r acts room drew) h =
+    let few = subst (AtMost 3) drew (act-most a (y .drawing)) in
+    omega (arith, room, carry-most 3 (Draw e rs) (y .drawing) (y .at) (y .output) few, carry-length 3 (Draw e rs) (y .drawing) (y .at) (y .output) few (omega (arith, room)))

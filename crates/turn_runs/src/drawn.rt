@@ -1,26 +1,31 @@
 // Runs of bytes that are drawn, from the cell of the innermost body or from the piece.
 use crate::awaits_nothing;
+use crate::is_marked;
 use crate::reach;
 use crate::set_in_use;
 use bodies::body_at;
+use command_runs::effectors::run_format;
 use command_runs::run_commands;
-use drawing_runs::Passed;
+use drawing_runs::Drew;
+use drawing_runs::characters::closes_at_once;
 use drawing_runs::characters::run_text;
+use drawing_runs::settings::set_text;
 use drawing_runs::strokes::draw_strokes;
 use pens::tips::Tip;
-use pens::tips::pen_of;
+use pens::tips::catch_up;
 use pens::tips::tip_of;
 use pens::words::put_text;
 use pens::words::text_of;
 use rules::Command;
 use rules::Look;
 use rules::Operand;
+use rules::Pen;
 use rules::Point;
+use rules::ROOM_FOR_STEP;
 use rules::Repertoire;
 use rules::Set;
 use store::cursors::Stretch;
 use store::cursors::stretch_of;
-use tables::controls::is_recorded;
 use turns::progress::Progress;
 use turns::progress::Reached;
 use turns::progress::after_run;
@@ -31,19 +36,10 @@ ghost use Prim.Native.Nat.{ℕ, _+_, _-_, _≤_};
 ghost use lib.ListN.{length};
 ghost use Rattle.rules.specs.Ranges.{domainFits, commandFits};
 ghost use Rattle.store.specs.Lent.{Sized};
-ghost use Rattle.rules.specs.declared.Text.{Text};
 ghost use Rattle.pens.specs.Words.{textFrom};
-ghost use Rattle.drawing_runs.specs.Strokes.{PassesTo};
-ghost use Rattle.turn_runs.specs.Drew.{tipAfter, DrawsTo};
+ghost use Rattle.drawing_runs.specs.Drew.{DrawsTo};
+ghost use Rattle.turn_runs.specs.Drew.{tipAfter};
 ghost use Rattle.turn_runs.specs.Walk.{Walk, Fit, sourceOf, Lies, Passes, placesAfter, reachedAt};
-
-// How many bytes a run took, the place after their records, and what they left beside the text.
-struct Drew {
-    count: usize,
-    at: usize,
-    tip: Tip,
-    command: Command,
-}
 
 fn none_drawn(tip: Tip, command: Command, at: usize) -> Drew
     ensures { λ r. ⌜ r ≡ record { count = 0; at = at; tip = tip; command = command } ⌝ }
@@ -69,23 +65,31 @@ fn tip_after(count: usize, moved: bool, point: Point, tip: Tip) -> Tip
     };
     if moved {
         return Tip {
-            behind: true,
             point,
             operand,
+            behind: true,
         };
     }
     let point = tip.point;
     Tip {
-        behind: tip.behind,
         point,
         operand,
+        behind: tip.behind,
     }
 }
 
-// Many points of one stroke, whose loop is the shortest, else whole commands.
-fn pass_points(
-    point: Point,
-    operand: Operand,
+// Whether none of an operand is begun. It keeps eight bytes.
+fn none_begun(operand: Operand) -> bool
+    ensures none { λ r. ⌜ (r ≡ true → operand .count ≡ 0) ⌝ }
+    ensures eight { λ _. ⌜ length (operand .bytes) ≡ 8 ⌝ }
+{
+    operand.count == 0
+}
+
+// What no run of points takes: a format effector, or the operands of TEXT.
+fn draw_next(
+    words: &mut [u32; 9],
+    tip: Tip,
     command: Command,
     look: Look,
     bytes: &[u8],
@@ -93,28 +97,29 @@ fn pass_points(
     to: usize,
     out: &mut [u8],
     at: usize,
-) -> Passed
-    requires { ⌜ (operand .count ≡ 0) × (domainFits (look .domain) ≡ true) × (commandFits command ≡ true) × (from ≤ to)
-        × (to ≤ length (now bytes)) × (at ≤ length (now out)) ⌝ }
-    ensures ran { λ r. ⌜ PassesTo (now (bytes .entry)) from point operand command look at (now (out .entry)) r (now (out .exit)) ⌝ }
+) -> Drew
+    requires { ⌜ (tip .operand .count ≡ 0) × (domainFits (look .domain) ≡ true) × (from ≤ to) × (to ≤ length (now bytes))
+        × (at ≤ length (now out)) ⌝ }
+    ensures ran { λ r. ⌜ DrawsTo Set.Pdi (now (bytes .entry)) from (textFrom (now (words .entry))) tip command look at
+        (now (out .entry)) r (textFrom (now (words .exit))) (now (out .exit)) ⌝ }
     ensures most { λ r. ⌜ from + r .count ≤ to ⌝ }
 {
-    let lined = draw_strokes(point, operand, command, look, bytes, from, to, out, at);
-    if 0 < lined.count {
-        let point = lined.point;
-        return Passed {
-            count: lined.count,
-            at: lined.at,
-            moved: true,
-            point,
-            command,
-        };
+    if to <= from {
+        return none_drawn(tip, command, at);
     }
-    run_commands(point, command, look, bytes, from, to, out, at)
+    if out.len() - at < ROOM_FOR_STEP {
+        return none_drawn(tip, command, at);
+    }
+    if bytes[from] < 32 {
+        return run_format(words, tip, command, look, bytes, from, out, at);
+    }
+    set_text(words, tip, command, look, bytes, from, to, at)
 }
 
-// PDI bytes, where no operand is begun. No text is looked at.
+// PDI bytes, where no operand is begun: many points of one stroke, whose loop is the shortest, else whole commands and what follows
+// them.
 fn draw_pdi(
+    words: &mut [u32; 9],
     tip: Tip,
     command: Command,
     look: Look,
@@ -126,27 +131,49 @@ fn draw_pdi(
 ) -> Drew
     requires { ⌜ (domainFits (look .domain) ≡ true) × (commandFits command ≡ true) × (from ≤ to) × (to ≤ length (now bytes))
         × (at ≤ length (now out)) ⌝ }
-    ensures ran { λ r. ⌜ ((t : Text)
-        → DrawsTo Set.Pdi (now (bytes .entry)) from t tip command look at (now (out .entry)) r t (now (out .exit))) ⌝ }
+    ensures ran { λ r. ⌜ DrawsTo Set.Pdi (now (bytes .entry)) from (textFrom (now (words .entry))) tip command look at
+        (now (out .entry)) r (textFrom (now (words .exit))) (now (out .exit)) ⌝ }
     ensures most { λ r. ⌜ from + r .count ≤ to ⌝ }
 {
     let operand = tip.operand;
-    if operand.count != 0 {
+    if !none_begun(operand) {
         return none_drawn(tip, command, at);
     }
     let point = tip.point;
-    let passed = pass_points(point, operand, command, look, bytes, from, to, out, at);
+    let lined = draw_strokes(point, operand, command, look, bytes, from, to, out, at);
+    if 0 < lined.count {
+        return Drew {
+            count: lined.count,
+            at: lined.at,
+            tip: tip_after(lined.count, true, lined.point, tip),
+            command,
+        };
+    }
+    let passed = run_commands(point, command, look, bytes, from, to, out, at);
     let tip = tip_after(passed.count, passed.moved, passed.point, tip);
-    let command = passed.command;
+    let place = from + passed.count;
+    let next = draw_next(
+        words,
+        tip,
+        passed.command,
+        look,
+        bytes,
+        place,
+        to,
+        out,
+        passed.at,
+    );
+    let tip = next.tip;
+    let command = next.command;
     Drew {
-        count: passed.count,
-        at: passed.at,
+        count: passed.count + next.count,
+        at: next.at,
         tip,
         command,
     }
 }
 
-// Characters, where no command is open.
+// Characters, where the open command closes at once.
 fn draw_text(
     repertoire: Repertoire,
     words: &mut [u32; 9],
@@ -164,10 +191,18 @@ fn draw_text(
         look at (now (out .entry)) r (textFrom (now (words .exit))) (now (out .exit)) ⌝ }
     ensures most { λ r. ⌜ from + r .count ≤ to ⌝ }
 {
-    if command.opcode != 0 {
+    let operand = tip.operand;
+    if !closes_at_once(command, operand) {
         return none_drawn(tip, command, at);
     }
-    let pen = pen_of(text_of(words), tip);
+    let point = tip.point;
+    catch_up(words, tip.behind, point);
+    let text = text_of(words);
+    let pen = Pen {
+        point,
+        text,
+        operand,
+    };
     let ran = run_text(repertoire, pen, command, look, bytes, from, to, out, at);
     let pen = ran.pen;
     put_text(words, pen.text);
@@ -201,7 +236,7 @@ fn draw_set(
     ensures most { λ r. ⌜ from + r .count ≤ to ⌝ }
 {
     match set {
-        Set::Pdi => draw_pdi(tip, command, look, bytes, from, to, out, at),
+        Set::Pdi => draw_pdi(words, tip, command, look, bytes, from, to, out, at),
         Set::Characters(repertoire) => draw_text(
             repertoire,
             words,
@@ -282,14 +317,14 @@ fn read_past(depth: u8, count: usize, places: &mut [u8; 8])
     places[index] = places[index] + (count as u8);
 }
 
-// A control that is not recorded draws nothing.
+// A control without a record, or one that waits for another byte, is left to a turn.
 fn begins_drawn(bytes: &[u8], from: usize, to: usize) -> bool
     requires { ⌜ to ≤ length (now bytes) ⌝ }
 {
     if to <= from {
         return false;
     }
-    32 <= bytes[from] || is_recorded(bytes[from])
+    32 <= bytes[from] || is_marked(bytes[from])
 }
 
 // Bytes that are drawn, of the innermost body, else of the piece.

@@ -37,9 +37,11 @@ returns c =
     let if1· = c .if1 in
     let args· = c .before .before .before .before .before .before .args in
     let loop· = c .before .before .before .loop in
-    let put-operand· = c .before .put-operand in
-    (sets-end _ _ _ _ (loop· .command) _ _ (loop· .count) (put-operand· .result) (if1· .taken)
-    (sets-then (now (args· .bytes)) (args· .from) (args· .look) (args· .command) (loop· .command) _ _ _ _ (loop· .count) (put-operand· .result) (loop· .inv .2 (args· .look) refl) (put-operand· .ensures .0 (loop· .command) (args· .look) (loop· .inv .0) refl refl)), omega (arith, loop· .inv .1))
+    let put-operand· = c .before .put-operand in (
+      sets-end _ _ _ _ (loop· .command) _ _ (loop· .count) (put-operand· .result) (if1· .taken)
+          (sets-then (now (args· .bytes)) (args· .from) (args· .look) (args· .command) (loop· .command) _ _ _ _ (loop· .count) (put-operand· .result) (loop· .inv .2 (args· .look) refl) (put-operand· .ensures .0 (loop· .command) (args· .look) (loop· .inv .0) refl refl)),
+      omega (arith, loop· .inv .1),
+    )
 
 add-count : tie.Need-add-count Inv-loop μ-loop
 add-count c =

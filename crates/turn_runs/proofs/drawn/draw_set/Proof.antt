@@ -26,9 +26,9 @@ same-length c = search needs
 
 returns : tie.Need-returns
 returns c =
-    let enum-told· = c .before .before .before .before .enum-told in
+    let enum-told· = c .before .before .before .before .before .enum-told in
     let draw-pdi· = c .before .before .draw-pdi in
-    (λ m. rw (enum-told· .given .1) (draw-pdi· .ensures .0 _ m), draw-pdi· .ensures .1)
+    (λ m. rw (enum-told· .given .1) (draw-pdi· .ensures .0 m), draw-pdi· .ensures .1)
 
 same-length-2 : tie.Need-same-length-2
 same-length-2 c = search needs
