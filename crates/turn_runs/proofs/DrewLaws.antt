@@ -13,6 +13,7 @@ use Rattle.rules.specs.Text.{following}
 use Rattle.rules.proofs.TextLaws.{follow-follow}
 use Rattle.pens.specs.Tips.{caughtUp, penOf, tipOf}
 use Rattle.pens.specs.declared.tips.Tip.{Tip}
+use Rattle.pens.proofs.TipLaws.{caught-follows}
 use Rattle.drawing_runs.specs.Run.{Run, standing, RunsTo}
 use Rattle.drawing_runs.specs.Strokes.{penAfter, PassesTo}
 use Rattle.drawing_runs.specs.declared.Passed.{Passed}
