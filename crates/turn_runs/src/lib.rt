@@ -3,8 +3,11 @@ pub mod coded;
 pub mod drawn;
 pub mod run;
 
+use rules::Class;
+use rules::Control;
 use rules::Set;
 use rules::Waiting;
+use tables::controls::class_of;
 use tables::sets::set_of;
 use turns::progress::Progress;
 ghost use mathlib.Core.Path.{_≡_};
@@ -34,6 +37,18 @@ fn awaits_nothing(waiting: Waiting) -> bool
         return true;
     }
     false
+}
+
+// Whether a byte is a control that has a record and waits for no other byte.
+fn is_marked(byte: u8) -> bool {
+    match class_of(byte) {
+        Class::Below(control) => match control {
+            Control::Recorded => true,
+            Control::Formats(_) => true,
+            _ => false,
+        },
+        _ => false,
+    }
 }
 
 // The set that bytes are read from where nothing is waited for.
