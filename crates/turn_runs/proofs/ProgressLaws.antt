@@ -1,8 +1,10 @@
 -- Runs over the parts that the code holds
 use Rattle.turn_runs.specs.Prelude.{ℕ, zero, suc, _+_, _-_, _≤_, _<_, add-zero, arith, _≡_, refl, sym, ap, subst, Bool, true, false, List, [], length, drop, getD, set, length-drop, set-getD, ltb, ltb-true, ltb-false}
 use Rattle.rules.specs.declared.Command.{Command}
+use Rattle.rules.specs.declared.Control.the-variants.{Ignored, Locks}
 use Rattle.rules.specs.declared.Cursor.{Cursor}
 use Rattle.rules.specs.declared.Drawing.{Drawing}
+use Rattle.rules.specs.declared.Element.{Element}
 use Rattle.rules.specs.declared.Look.{Look}
 use Rattle.rules.specs.declared.Pen.{Pen}
 use Rattle.rules.specs.declared.Point.{Point}
@@ -14,7 +16,7 @@ use Rattle.rules.specs.declared.Waiting.the-variants.{Nothing}
 use Rattle.rules.specs.declared.Status.the-variants.{Running}
 use Rattle.rules.specs.Numbers.{mostBytes, roomForStep}
 use Rattle.rules.specs.Bodies.{bodyAt, depthLeft, unspent}
-use Rattle.rules.specs.Coding.{setOf}
+use Rattle.rules.specs.Coding.{setOf, inUse, controls}
 use Rattle.rules.specs.Ranges.{domainFits, colourFits, commandFits, drawingFits}
 use Rattle.rules.specs.Drawing.{noOperand, freshDrawing}
 use Rattle.rules.specs.Record.{bytesOfAll}
@@ -24,6 +26,7 @@ use Rattle.rules.proofs.Bools.{and-left, and-right}
 use Rattle.rules.proofs.Steps.{remove-twice, remove-later}
 use Rattle.rules.proofs.Turns.{turn-advances}
 use Rattle.records.proofs.Writes.{overwrite-length}
+use Rattle.store.specs.Each.{none as each-none, more as each-more}
 use Rattle.store.specs.Stretch.{Gives}
 use Rattle.bodies.specs.Stack.{bodiesOf}
 use Rattle.bodies.specs.Calls.{CallsEmpty}
@@ -38,7 +41,7 @@ use Rattle.turns.specs.declared.progress.Reached.{Reached}
 use Rattle.turns.specs.Progress.{atDepth, placeAfter, ranOn, codedOn}
 use Rattle.turns.specs.View.{stateAt, NoneSpent}
 use Rattle.turn_runs.specs.Walk.{Place, placed, placeAt, reachedAt, Walk, none, removed, step, Stands, sourceOf, placesAfter, Lies}
-use Rattle.turn_runs.proofs.RunLaws.{run-walk, piece-feeds, body-feeds, idle-walk, calls-walk}
+use Rattle.turn_runs.proofs.RunLaws.{react-lock, run-walk, piece-feeds, body-feeds, idle-walk, calls-walk}
 
 -- A walk after a walk
 pub walk-then : {piece : List ℕ} {x y z : Place} → Walk piece x y → Walk piece y z → Walk piece x z
@@ -253,6 +256,14 @@ module _ (budget : ℕ) (p : Progress) (cells places firsts : List ℕ) (g : Dra
     walk-idle idled firsts₁ st₁ i m r e =
         let w = idle-walk piece (p .at) (p .written) budget (p .steps) cells places g out (idled .count) (omega arith) (omega arith) room i (omega arith) in
         rw (e, d) (rw (add-zero (p .steps), add-zero (p .at)) at w)
+
+    pub walk-lock : (b : ℕ) (u : Element) → p .waiting ≡ Nothing → getD piece (p .at) 0 ≡ b → b < 32 → getD controls b Ignored ≡ Locks u
+        → p .at < to → (r : Progress) → r ≡ codedOn 1 (p .depth) (inUse u (p .sets)) (p .waiting) p
+        → Walk piece (placeAt budget p cells places firsts g st out) (placeAt budget r cells places firsts g st out)
+    walk-lock b u w e k h m r q =
+        let read : getD piece (p .at + 0) 0 ≡ b = rw (add-zero (p .at)) e in
+        let one = react-lock (codingOf (p .sets) (p .waiting) firsts) st (getD piece (p .at + 0) 0) u w (rw read k) (rw read h) in
+        walk-idle (record { sets = inUse u (p .sets); waiting = p .waiting; count = 1 }) firsts st (each-more each-none one) (omega arith) r (rw d at q)
 
     pub walk-calls : (n : ℕ) (cells₁ places₁ : List ℕ) → (n ≡ 0 → ⊥) → p .waiting ≡ Nothing → setOf (p .sets .used) (p .sets) ≡ Macro → CallsEmpty firsts piece (p .at) n
         → p .at + n ≤ to → (cells₁ ≡ set cells 0 0) × (places₁ ≡ set places 0 0) → (r : Progress) → r ≡ codedOn n 1 (p .sets) (p .waiting) p

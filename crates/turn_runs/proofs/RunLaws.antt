@@ -1,12 +1,15 @@
 -- Runs of bytes as walks
-use Rattle.turn_runs.specs.Prelude.{ℕ, zero, suc, _+_, _-_, _≤_, _<_, add-zero, add-suc, arith, _≡_, refl, sym, ap, _∙_, subst, Bool, true, false, List, [], _∷_, length, drop, getD, set, drop-cons, getD-set-same, set-getD, ltb, le-ltb}
+use Rattle.turn_runs.specs.Prelude.{ℕ, zero, suc, _+_, _-_, _≤_, _<_, add-zero, add-suc, arith, _≡_, refl, sym, ap, _∙_, subst, Bool, true, false, List, [], _∷_, length, drop, getD, set, drop-cons, getD-set-same, set-getD, ltb, lt-ltb, le-ltb}
 use Rattle.rules.specs.declared.Action.{Action}
 use Rattle.rules.specs.declared.Action.the-variants.{Idle as Idle·action}
 use Rattle.rules.specs.declared.Bodies.{Bodies}
 use Rattle.rules.specs.declared.Class.the-variants.{Column2, Above}
 use Rattle.rules.specs.declared.Coding.{Coding}
+use Rattle.rules.specs.declared.Control.the-variants.{Ignored, Locks}
 use Rattle.rules.specs.declared.Cursor.{Cursor}
 use Rattle.rules.specs.declared.Drawing.{Drawing}
+use Rattle.rules.specs.declared.Element.{Element}
+use Rattle.rules.specs.declared.Element.the-variants.{G0, G1}
 use Rattle.rules.specs.declared.Record.{Record}
 use Rattle.rules.specs.declared.Set.the-variants.{Macro}
 use Rattle.rules.specs.declared.Status.the-variants.{Running}
@@ -15,7 +18,7 @@ use Rattle.rules.specs.declared.Waiting.the-variants.{Nothing}
 use Rattle.rules.specs.Numbers.{roomForStep}
 use Rattle.rules.specs.Choice.{pick}
 use Rattle.rules.specs.Bodies.{bodyAt, hasLeft, depthLeft, unspent}
-use Rattle.rules.specs.Coding.{React, setOf, wait, graphic, classOf, reactTo, react, afterEscape}
+use Rattle.rules.specs.Coding.{React, setOf, inUse, wait, withSets, controls, control, graphic, classOf, reactTo, react, afterEscape}
 use Rattle.rules.specs.Drawing.{Draw, act}
 use Rattle.rules.specs.Record.{bytesOfAll}
 use Rattle.rules.specs.Reading.{consumedBy}
@@ -58,6 +61,19 @@ react-graphic c st b h l m =
     by : (t : Bool) → reactTo Nothing (pick t Column2 Above) (wait Nothing c) st b ≡ graphic (setOf (c .sets .used) (c .sets)) (wait Nothing c) st b
     by true = refl
     by false = refl
+
+-- Locking shifts: "0/15 and 0/14 put G0, G1 in use."
+pub out-locks : getD controls 14 Ignored ≡ Locks G1
+unfolding controls
+out-locks = refl
+
+pub in-locks : getD controls 15 Ignored ≡ Locks G0
+unfolding controls
+in-locks = refl
+
+pub react-lock : (c : Coding) (st : List ℕ) (b : ℕ) (e : Element) → c .waiting ≡ Nothing → b < 32 → getD controls b Ignored ≡ Locks e → react c st b ≡ React (withSets (inUse e (c .sets)) c) st Idle·action
+unfolding react reactTo classOf control
+react-lock c st b e h l k = rw (le-ltb 127 b (omega arith), h, lt-ltb b 32 l, k)
 
 -- A byte of the set in use that asks an action
 acts-goes : (budget steps : ℕ) (y : Bodies) (c : Coding) (d e : Drawing) (st : List ℕ) (s : Source) (b : ℕ) (a : Action) (rs : List Record)

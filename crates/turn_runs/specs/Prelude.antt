@@ -8,6 +8,6 @@ pub use native.Mathlib.Omega.{arith}
 pub use lib.ListN.{length, drop, getD, set, length-drop}
 pub use lib.Seq.{set-getD, drop-cons, getD-set-same}
 pub use lib.Dec.{ltb}
-pub use borrow.Author.Tests.{ltb-true, ltb-false, le-ltb, eqb-true, not-false}
+pub use borrow.Author.Tests.{ltb-true, ltb-false, lt-ltb, le-ltb, eqb-true, not-false}
 pub use borrow.Author.Needs.{needs}
 pub use denote.Ref.{now}

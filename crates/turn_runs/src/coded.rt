@@ -1,18 +1,18 @@
 // Runs of bytes of the piece that write no record: definitions, escape sequences, controls, calls of empty bodies.
 use crate::awaits_nothing;
+use crate::is_marked;
 use crate::reach;
 use crate::set_in_use;
 use bodies::calls::empty_calls;
 use bodies::depth_left;
 use bodies::set_body;
 use coding_runs::run_idle;
-use rules::Class;
-use rules::Control;
 use rules::Cursor;
+use rules::Element;
 use rules::ROOM_FOR_STEP;
 use rules::Set;
 use rules::Waiting;
-use tables::controls::class_of;
+use tables::sets::in_use;
 use turns::progress::Progress;
 use turns::progress::after_coding;
 use turns::progress::at_depth;
@@ -23,11 +23,18 @@ ghost use Prim.Native.Nat.{ℕ, _+_, _-_, _≤_};
 ghost use lib.ListN.{length};
 ghost use Rattle.rules.specs.Numbers.{roomForStep};
 ghost use Rattle.rules.specs.declared.Drawing.{Drawing};
-ghost use Rattle.rules.specs.Coding.{setOf};
+ghost use Rattle.rules.specs.Coding.{setOf, inUse};
 ghost use Rattle.rules.specs.Ranges.{waitingFits};
 ghost use Rattle.store.specs.Lent.{Sized};
+ghost use Rattle.turns.specs.Progress.{codedOn};
 ghost use Rattle.turns.specs.View.{NoneSpent};
 ghost use Rattle.turn_runs.specs.Walk.{placeAt, Walk};
+
+// The control 0/14, which puts G1 in use.
+const SHIFT_OUT: u8 = 14;
+
+// The control 0/15, which puts G0 in use.
+const SHIFT_IN: u8 = 15;
 
 // Calls of empty bodies from the piece. Each is removed before the next step.
 fn call_piece(
@@ -112,19 +119,17 @@ fn names_piece(
     progress
 }
 
-// Whether a control is drawn, so that no run of coded bytes takes it.
-fn is_drawn(waiting: Waiting, byte: u8) -> bool {
-    if !awaits_nothing(waiting) {
-        return false;
-    }
-    match class_of(byte) {
-        Class::Below(control) => match control {
-            Control::Recorded => true,
-            Control::Formats(_) => true,
-            _ => false,
-        },
-        _ => false,
-    }
+// A locking shift of the piece.
+fn lock(progress: Progress, used: Element) -> Progress
+    requires { ⌜ (progress .steps + 1 ≤ 4294967295) × (progress .at + 1 ≤ 18446744073709551615) ⌝ }
+    ensures { λ r. ⌜ r ≡ codedOn 1 (progress .depth) (inUse used (progress .sets)) (progress .waiting) progress ⌝ }
+{
+    let mut progress = progress;
+    progress.at = progress.at + 1;
+    progress.steps = progress.steps + 1;
+    let sets = in_use(used, progress.sets);
+    progress.sets = sets;
+    progress
 }
 
 // Bytes of the piece that write no record, with so many bytes of the output free.
@@ -164,7 +169,13 @@ fn code_piece(
     if awaits_nothing(waiting) && 32 <= piece[at] {
         return names_piece(progress, to, cells, places, firsts, piece);
     }
-    if is_drawn(waiting, piece[at]) {
+    if awaits_nothing(waiting) && piece[at] == SHIFT_OUT {
+        return lock(progress, Element::G1);
+    }
+    if awaits_nothing(waiting) && piece[at] == SHIFT_IN {
+        return lock(progress, Element::G0);
+    }
+    if awaits_nothing(waiting) && is_marked(piece[at]) {
         return progress;
     }
     idle_piece(progress, to, firsts, store, piece)
