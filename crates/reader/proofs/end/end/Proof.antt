@@ -1,7 +1,7 @@
 use Rattle.reader.proofs.EndLaws.{end-fails, end-valid, end-is}
 use Rattle.reader.proofs.Promising.{ends}
 use Rattle.rules.specs.Reading.{tests}
-use Rattle.reader.specs.Prelude.{now, _∙_, needs}
+use Rattle.reader.specs.Prelude.{now, refl, _∙_, needs}
 use Rattle.reader.proofs.end.end.Statement.{statement}
 use Rattle.reader.proofs.end.end.Tie as tie
 
@@ -10,9 +10,6 @@ verdict-requires c κs = search needs
 
 enum-known-refusal : tie.Need-enum-known-refusal
 enum-known-refusal c = search needs
-
-rest-requires : tie.Need-rest-requires
-rest-requires c κs = search needs
 
 enum-told : tie.Need-enum-told
 enum-told c = search needs
@@ -28,11 +25,10 @@ end-running-requires c κs =
 returns : tie.Need-returns
 unfolding tests
 returns c =
-    let args· = c .before .before .before .before .before .before .before .args in
-    let verdict· = c .before .before .before .before .verdict in
-    let refusal· = c .before .before .refusal in
-    let rest· = c .rest in
-    ends (end-fails (args· .session) (now (args· .store)) (now (args· .out)) (verdict· .result) (verdict· .ensures) _ _ (refusal· .given .1) (rest· .ensures))
+    let args· = c .before .before .before .before .before .before .args in
+    let verdict· = c .before .before .before .verdict in
+    let refusal· = c .before .refusal in
+    ends (end-fails (args· .session) (now (args· .store)) (now (args· .out)) (verdict· .result) (verdict· .ensures) _ _ (refusal· .given .1) refl)
 
 same-length : tie.Need-same-length
 same-length c = search needs
@@ -49,7 +45,6 @@ end-spec =
     (tie.spec
     verdict-requires
     enum-known-refusal
-    rest-requires
     enum-told
     end-running-requires
     returns

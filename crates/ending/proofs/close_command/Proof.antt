@@ -1,9 +1,9 @@
 use Rattle.rules.specs.declared.Action.the-variants.{Close}
 use Rattle.drawing.proofs.Refusals.{act-vertices}
-use Rattle.reader.proofs.EndLaws.{stopped-so, ended-so}
+use Rattle.ending.proofs.EndLaws.{stopped-so, ended-so}
 use borrow.Author.Needs.{needs}
-use Rattle.reader.proofs.end.close_command.Statement.{statement}
-use Rattle.reader.proofs.end.close_command.Tie as tie
+use Rattle.ending.proofs.close_command.Statement.{statement}
+use Rattle.ending.proofs.close_command.Tie as tie
 
 act-requires : tie.Need-act-requires
 act-requires c κs = search needs

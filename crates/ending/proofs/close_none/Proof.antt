@@ -1,6 +1,6 @@
 use borrow.Author.Needs.{needs}
-use Rattle.reader.proofs.end.close_none.Statement.{statement}
-use Rattle.reader.proofs.end.close_none.Tie as tie
+use Rattle.ending.proofs.close_none.Statement.{statement}
+use Rattle.ending.proofs.close_none.Tie as tie
 
 resting-requires : tie.Need-resting-requires
 resting-requires c κs = search needs

@@ -1,6 +1,6 @@
 use borrow.Author.Needs.{needs}
-use Rattle.reader.proofs.end.stop.Statement.{statement}
-use Rattle.reader.proofs.end.stop.Tie as tie
+use Rattle.ending.proofs.stop.Statement.{statement}
+use Rattle.ending.proofs.stop.Tie as tie
 
 with-parts-requires : tie.Need-with-parts-requires
 with-parts-requires c κs = search needs

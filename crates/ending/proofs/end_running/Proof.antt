@@ -1,8 +1,8 @@
-use Rattle.reader.specs.Prelude.{sym, _∙_, needs}
+use Rattle.ending.specs.Prelude.{sym, _∙_, needs}
 use Rattle.rules.proofs.Steps.{valid-store, valid-depth}
-use Rattle.reader.proofs.EndLaws.{left-answer, inside-answer, none-answer, full-answer, close-answer}
-use Rattle.reader.proofs.end.end_running.Statement.{statement}
-use Rattle.reader.proofs.end.end_running.Tie as tie
+use Rattle.ending.proofs.EndLaws.{left-answer, inside-answer, none-answer, full-answer, close-answer}
+use Rattle.ending.proofs.end_running.Statement.{statement}
+use Rattle.ending.proofs.end_running.Tie as tie
 
 bytes-left-requires : tie.Need-bytes-left-requires
 bytes-left-requires c κs =
