@@ -22,7 +22,7 @@ use Rattle.figures.specs.Carried.{Carried, carry, drawingOf}
 use Rattle.figures.specs.Tracing.{penAt, movedIf}
 use Rattle.drawing_runs.specs.Run.{ActsAs, Run, none, standing}
 use Rattle.drawing_runs.specs.Strokes.{rested}
-use Rattle.drawing_runs.specs.Characters.{IsFormat}
+use Rattle.text_runs.specs.Characters.{IsFormat}
 use Rattle.drawing_runs.specs.Drew.{DrawsTo}
 use Rattle.drawing_runs.proofs.ActsLaws.{format-acts}
 use Rattle.command_runs.specs.declared.opening.Next.{Next}

@@ -2,7 +2,6 @@
 use crate::opening::mark_next;
 use drawing::data::role_due;
 use drawing_runs::Drew;
-use drawing_runs::characters::control_of;
 use figures::finishing::finishes_apart;
 use figures::tracing::either;
 use moves::movers::format;
@@ -20,6 +19,7 @@ use rules::Operand;
 use rules::Pen;
 use rules::Point;
 use tables::opcodes::row_of;
+use text_runs::characters::control_of;
 ghost use mathlib.Core.Path.{_≡_};
 ghost use Prim.Native.Nat.{_+_, _<_, _≤_};
 ghost use lib.ListN.{length};

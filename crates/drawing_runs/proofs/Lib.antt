@@ -1,5 +1,3 @@
-pub mod CharacterLaws
 pub mod ActsLaws
 pub mod RunLaws
 pub mod StrokeLaws
-pub mod SettingLaws

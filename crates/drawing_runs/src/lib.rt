@@ -1,7 +1,4 @@
 // Runs: many bytes of one set at once, each a step of its own.
-pub mod characters;
-mod lines;
-pub mod settings;
 pub mod strokes;
 
 use pens::tips::Tip;
@@ -39,7 +36,7 @@ pub struct Drew {
 }
 
 // How many steps of one record each can be taken before what is left ends, or the room for a step.
-fn most_steps(left: usize, room: usize) -> usize
+pub fn most_steps(left: usize, room: usize) -> usize
     ensures { λ r. ⌜ (r ≤ left) × ((n : ℕ) → n < r → 40 * n + roomForStep ≤ room) ⌝ }
 {
     if room < ROOM_FOR_STEP {

@@ -1,0 +1,3 @@
+pub mod Prelude
+pub mod Characters
+pub mod Settings
