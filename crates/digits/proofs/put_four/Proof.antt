@@ -1,7 +1,7 @@
-use Rattle.listing.specs.Prelude.{arith, needs}
-use Rattle.listing.proofs.Places.{joined}
-use Rattle.listing.proofs.put_four.Statement.{statement}
-use Rattle.listing.proofs.put_four.Tie as tie
+use Rattle.digits.specs.Prelude.{arith, needs}
+use Rattle.digits.proofs.Places.{joined}
+use Rattle.digits.proofs.put_four.Statement.{statement}
+use Rattle.digits.proofs.put_four.Tie as tie
 
 put-two-requires : tie.Need-put-two-requires
 put-two-requires c κs = search needs

@@ -1,8 +1,8 @@
-use Rattle.listing.specs.Prelude.{arith, needs}
-use Rattle.listing.proofs.Places.{joined}
-use Rattle.listing.proofs.Decimals.{one-digit, two-digits, three-digits, four-digits}
-use Rattle.listing.proofs.put_short.Statement.{statement}
-use Rattle.listing.proofs.put_short.Tie as tie
+use Rattle.digits.specs.Prelude.{arith, needs}
+use Rattle.digits.proofs.Places.{joined}
+use Rattle.digits.proofs.Decimals.{one-digit, two-digits, three-digits, four-digits}
+use Rattle.digits.proofs.put_short.Statement.{statement}
+use Rattle.digits.proofs.put_short.Tie as tie
 
 digit-requires : tie.Need-digit-requires
 digit-requires c κs = search needs

@@ -1,8 +1,8 @@
-use Rattle.listing.specs.Prelude.{_/_, arith, needs}
-use Rattle.listing.proofs.Places.{joined}
-use Rattle.listing.proofs.Decimals.{decimal-length, last-four}
-use Rattle.listing.proofs.put_number.Statement.{statement}
-use Rattle.listing.proofs.put_number.Tie as tie
+use Rattle.digits.specs.Prelude.{_/_, arith, needs}
+use Rattle.digits.proofs.Places.{joined}
+use Rattle.digits.proofs.Decimals.{decimal-length, last-four}
+use Rattle.digits.proofs.put_number.Statement.{statement}
+use Rattle.digits.proofs.put_number.Tie as tie
 
 put-short-requires : tie.Need-put-short-requires
 put-short-requires c κs = search needs

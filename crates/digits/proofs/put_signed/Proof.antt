@@ -1,9 +1,9 @@
-use Rattle.listing.specs.Prelude.{arith, lt-ltb, le-ltb, _≡_, _+_, _-_, needs}
-use Rattle.listing.proofs.Places.{joined}
-use Rattle.listing.proofs.Decimals.{one-digit}
-use Rattle.listing.specs.Text.{signedDecimal}
-use Rattle.listing.proofs.put_signed.Statement.{statement}
-use Rattle.listing.proofs.put_signed.Tie as tie
+use Rattle.digits.specs.Prelude.{arith, lt-ltb, le-ltb, _≡_, _+_, _-_, needs}
+use Rattle.digits.proofs.Places.{joined}
+use Rattle.digits.proofs.Decimals.{one-digit}
+use Rattle.digits.specs.Decimal.{signedDecimal}
+use Rattle.digits.proofs.put_signed.Statement.{statement}
+use Rattle.digits.proofs.put_signed.Tie as tie
 
 digit-requires : tie.Need-digit-requires
 digit-requires c κs = search needs

@@ -1,7 +1,7 @@
-use Rattle.listing.proofs.Places.{stored-byte}
+use Rattle.digits.proofs.Places.{stored-byte}
 use borrow.Author.Needs.{needs}
-use Rattle.listing.proofs.put_byte.Statement.{statement}
-use Rattle.listing.proofs.put_byte.Tie as tie
+use Rattle.digits.proofs.put_byte.Statement.{statement}
+use Rattle.digits.proofs.put_byte.Tie as tie
 
 slice-write-text : tie.Need-slice-write-text
 slice-write-text c = search needs

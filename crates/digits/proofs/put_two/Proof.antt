@@ -1,7 +1,7 @@
-use Rattle.listing.specs.Prelude.{arith, needs}
-use Rattle.listing.proofs.Places.{joined}
-use Rattle.listing.proofs.put_two.Statement.{statement}
-use Rattle.listing.proofs.put_two.Tie as tie
+use Rattle.digits.specs.Prelude.{arith, needs}
+use Rattle.digits.proofs.Places.{joined}
+use Rattle.digits.proofs.put_two.Statement.{statement}
+use Rattle.digits.proofs.put_two.Tie as tie
 
 digit-requires : tie.Need-digit-requires
 digit-requires c κs = search needs

@@ -1,7 +1,7 @@
 -- Numbers in decimal
-use Rattle.listing.specs.Prelude.{_≡_, refl, ap, _∙_, Bool, true, false, List, [], _∷_, _++_, append-assoc, ℕ, zero, suc, _+_, _/_, _%_, _^_, _≤_, _<_, pow-suc, div-lt-iff-lt-mul, arith, lt-ltb, le-ltb, ltb-false, length, length-append, ltb}
+use Rattle.digits.specs.Prelude.{_≡_, refl, ap, _∙_, Bool, true, false, List, [], _∷_, _++_, append-assoc, ℕ, zero, suc, _+_, _/_, _%_, _^_, _≤_, _<_, pow-suc, div-lt-iff-lt-mul, arith, lt-ltb, le-ltb, ltb-false, length, length-append, ltb}
 use Rattle.rules.specs.Choice.{pick}
-use Rattle.listing.specs.Text.{decimalTo, decimal, twoDigits, fourDigits}
+use Rattle.digits.specs.Decimal.{decimalTo, decimal, twoDigits, fourDigits}
 
 -- A number of one digit
 pub one-digit : (n : ℕ) → n < 10 → decimal n ≡ (48 + n) ∷ []
