@@ -36,9 +36,9 @@ use Rattle.drawing_runs.specs.Strokes.{penAfter}
 use Rattle.coding.specs.View.{codingOf}
 use Rattle.coding_runs.specs.Idle.{Idle, coded}
 use Rattle.coding_runs.specs.declared.Idled.{Idled}
-use Rattle.turns.specs.declared.progress.Progress.{Progress}
-use Rattle.turns.specs.declared.progress.Reached.{Reached}
-use Rattle.turns.specs.Progress.{atDepth, placeAfter, ranOn, codedOn}
+use Rattle.progress.specs.declared.Progress.{Progress}
+use Rattle.progress.specs.declared.Reached.{Reached}
+use Rattle.progress.specs.Progress.{atDepth, placeAfter, ranOn, codedOn}
 use Rattle.turns.specs.View.{stateAt, NoneSpent}
 use Rattle.turn_runs.specs.Walk.{Place, placed, placeAt, reachedAt, Walk, none, removed, step, Stands, sourceOf, placesAfter, Lies}
 use Rattle.turn_runs.proofs.RunLaws.{react-lock, run-walk, piece-feeds, body-feeds, idle-walk, calls-walk}

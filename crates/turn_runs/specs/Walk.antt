@@ -14,9 +14,9 @@ use Rattle.store.specs.Lent.{Sized}
 use Rattle.store.specs.Stretch.{Gives}
 use Rattle.bodies.specs.Stack.{bodiesOf}
 use Rattle.figures.specs.Carried.{drawingOf}
-use Rattle.turns.specs.declared.progress.Progress.{Progress}
+use Rattle.progress.specs.declared.Progress.{Progress}
 use Rattle.turns.specs.View.{stateAt}
-use Rattle.turns.specs.declared.progress.Reached.{Reached}
+use Rattle.progress.specs.declared.Reached.{Reached}
 
 -- Where a reading stands: its state, the place of the piece, the place of the output, and the output
 pub record Place : Type 0 where

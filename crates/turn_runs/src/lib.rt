@@ -3,13 +3,13 @@ pub mod coded;
 pub mod drawn;
 pub mod run;
 
+use progress::Progress;
 use rules::Class;
 use rules::Control;
 use rules::Set;
 use rules::Waiting;
 use tables::controls::class_of;
 use tables::sets::set_of;
-use turns::progress::Progress;
 ghost use mathlib.Core.Path.{_≡_};
 ghost use mathlib.Core.Bool.{true};
 ghost use Prim.Native.Nat.{_+_, _-_, _≤_};

@@ -1,8 +1,8 @@
 // As many steps at once as can be taken.
 use crate::coded::run_coded;
 use crate::drawn::run_drawn;
-use turns::progress::Reached;
-use turns::progress::with_progress;
+use progress::Reached;
+use progress::with_progress;
 ghost use mathlib.Core.List.{List};
 ghost use Prim.Native.Nat.{ℕ, _-_, _≤_};
 ghost use Rattle.turns.specs.View.{NoneSpent};

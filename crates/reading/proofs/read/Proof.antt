@@ -2,7 +2,7 @@ use Rattle.reading.proofs.Prelude.{now, needs, arith, refl, sym, ap, _�
 use Rattle.pens.specs.Tips.{penOf}
 use Rattle.pens.specs.Words.{textFrom}
 use Rattle.figures.specs.Carried.{drawingOf}
-use Rattle.turns.specs.declared.progress.Reached.{Reached}
+use Rattle.progress.specs.declared.Reached.{Reached}
 use Rattle.turns.specs.View.{stateAt}
 use Rattle.rules.proofs.Steps.{valid-store, valid-depth}
 use Rattle.turn_runs.proofs.ProgressLaws.{walk-steps}

@@ -1,6 +1,6 @@
 use Rattle.turn_runs.specs.Prelude.{now, arith, ap, _∙_, eqb-true, needs}
 use Rattle.rules.specs.declared.Element.the-variants.{G0, G1}
-use Rattle.turns.specs.declared.progress.Progress.{Progress}
+use Rattle.progress.specs.declared.Progress.{Progress}
 use Rattle.turn_runs.specs.Walk.{none}
 use Rattle.turn_runs.proofs.ProgressLaws.{none-runs, walk-lock, coded-most}
 use Rattle.turn_runs.proofs.RunLaws.{out-locks, in-locks}

@@ -1,5 +1,5 @@
 use Rattle.turn_runs.specs.Prelude.{now, ap, needs}
-use Rattle.turns.specs.declared.progress.Progress.{Progress}
+use Rattle.progress.specs.declared.Progress.{Progress}
 use Rattle.turn_runs.proofs.ProgressLaws.{walk-idle, coded-most}
 use Rattle.turn_runs.proofs.coded.idle_piece.Statement.{statement}
 use Rattle.turn_runs.proofs.coded.idle_piece.Tie as tie

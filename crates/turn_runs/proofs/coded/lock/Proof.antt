@@ -1,6 +1,6 @@
 use Rattle.turn_runs.specs.Prelude.{ap, needs}
 use Rattle.rules.specs.declared.Sets.{Sets}
-use Rattle.turns.specs.Progress.{codedOn}
+use Rattle.progress.specs.Progress.{codedOn}
 use Rattle.turn_runs.proofs.coded.lock.Statement.{statement}
 use Rattle.turn_runs.proofs.coded.lock.Tie as tie
 

@@ -1,5 +1,5 @@
 use Rattle.turn_runs.specs.Prelude.{now, arith, ap, needs}
-use Rattle.turns.specs.declared.progress.Progress.{Progress}
+use Rattle.progress.specs.declared.Progress.{Progress}
 use Rattle.turn_runs.proofs.ProgressLaws.{walk-then, walk-removed, removed-once}
 use Rattle.turn_runs.proofs.coded.run_coded.Statement.{statement}
 use Rattle.turn_runs.proofs.coded.run_coded.Tie as tie

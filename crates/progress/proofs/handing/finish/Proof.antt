@@ -1,6 +1,6 @@
 use borrow.Author.Needs.{needs}
-use Rattle.turns.proofs.handing.finish.Statement.{statement}
-use Rattle.turns.proofs.handing.finish.Tie as tie
+use Rattle.progress.proofs.handing.finish.Statement.{statement}
+use Rattle.progress.proofs.handing.finish.Tie as tie
 
 pen-of-requires : tie.Need-pen-of-requires
 pen-of-requires c κs = search needs

@@ -1,12 +1,12 @@
 -- How far a reading has come, and each way in which it goes on
-use Prim.Native.Nat.{ℕ, zero, suc, _+_}
+use Rattle.progress.specs.Prelude.{ℕ, zero, suc, _+_}
 use Rattle.rules.specs.declared.Sets.{Sets}
 use Rattle.rules.specs.declared.Waiting.{Waiting}
 use Rattle.rules.specs.declared.Session.{Session}
 use Rattle.figures.specs.declared.Drawn.{Drawn}
 use Rattle.pens.specs.Tips.{tipOf}
-use Rattle.turns.specs.declared.progress.Progress.{Progress}
-use Rattle.turns.specs.declared.progress.Reached.{Reached}
+use Rattle.progress.specs.declared.Progress.{Progress}
+use Rattle.progress.specs.declared.Reached.{Reached}
 
 -- Where a reading starts from a session
 abbrev pub startOf : Session → Reached

@@ -1,4 +1,6 @@
 // How far a reading has come, and each way in which it goes on.
+pub mod handing;
+
 use figures::Drawn;
 use pens::tips::Tip;
 use pens::tips::tip_of;
@@ -8,7 +10,7 @@ use rules::Sets;
 use rules::Waiting;
 ghost use mathlib.Core.Path.{_≡_};
 ghost use Prim.Native.Nat.{_+_, _≤_, _<_};
-ghost use Rattle.turns.specs.Progress.{stepsTo, atDepth, codedOn, placeAfter, ranOn, drawnTo};
+ghost use Rattle.progress.specs.Progress.{stepsTo, atDepth, codedOn, placeAfter, ranOn, drawnTo};
 
 // Where a reading stands between two steps. The drawing state and the arrays of the state are lent beside it.
 pub struct Progress {
@@ -38,13 +40,7 @@ pub fn at_depth(progress: Progress, depth: u8) -> Progress
 }
 
 // How an accepted step leaves the progress: it counts.
-pub(crate) fn counted(
-    progress: Progress,
-    at: usize,
-    depth: u8,
-    sets: Sets,
-    waiting: Waiting,
-) -> Progress
+pub fn counted(progress: Progress, at: usize, depth: u8, sets: Sets, waiting: Waiting) -> Progress
     requires { ⌜ progress .steps < 4294967295 ⌝ }
     ensures { λ r. ⌜ r ≡ stepsTo at depth sets waiting progress ⌝ }
 {

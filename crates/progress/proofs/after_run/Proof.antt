@@ -1,7 +1,7 @@
-use Rattle.turns.specs.Prelude.{arith, sym, ap, ℕ, _+_, needs}
-use Rattle.turns.proofs.ProgressLaws.{placed-piece, placed-body}
-use Rattle.turns.proofs.progress.after_run.Statement.{statement}
-use Rattle.turns.proofs.progress.after_run.Tie as tie
+use Rattle.progress.specs.Prelude.{arith, sym, ap, ℕ, _+_, needs}
+use Rattle.progress.proofs.ProgressLaws.{placed-piece, placed-body}
+use Rattle.progress.proofs.after_run.Statement.{statement}
+use Rattle.progress.proofs.after_run.Tie as tie
 
 cast-progress : tie.Need-cast-progress
 cast-progress c = search needs

@@ -1,6 +1,6 @@
 use borrow.Author.Needs.{needs}
-use Rattle.turns.proofs.handing.start.Statement.{statement}
-use Rattle.turns.proofs.handing.start.Tie as tie
+use Rattle.progress.proofs.handing.start.Statement.{statement}
+use Rattle.progress.proofs.handing.start.Tie as tie
 
 tip-of-requires : tie.Need-tip-of-requires
 tip-of-requires c κs = search needs

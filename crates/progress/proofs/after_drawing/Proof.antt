@@ -1,6 +1,6 @@
 use borrow.Author.Needs.{needs}
-use Rattle.turns.proofs.progress.after_drawing.Statement.{statement}
-use Rattle.turns.proofs.progress.after_drawing.Tie as tie
+use Rattle.progress.proofs.after_drawing.Statement.{statement}
+use Rattle.progress.proofs.after_drawing.Tie as tie
 
 tip-of-requires : tie.Need-tip-of-requires
 tip-of-requires c κs = search needs

@@ -1,6 +1,6 @@
 // Where a reading starts from a session, and what it hands over when it ends.
-use crate::progress::Progress;
-use crate::progress::Reached;
+use crate::Progress;
+use crate::Reached;
 use pens::tips::pen_of;
 use pens::tips::tip_of;
 use rules::Answer;
@@ -14,9 +14,8 @@ use rules::Text;
 ghost use mathlib.Core.Path.{_≡_};
 ghost use Rattle.pens.specs.Tips.{penOf};
 ghost use Rattle.figures.specs.Carried.{drawingOf};
-ghost use Rattle.turns.specs.Progress.{startOf};
-ghost use Rattle.turns.specs.View.{statusAfter, sessionAfter};
-ghost use Rattle.turns.specs.Handing.{fedOf};
+ghost use Rattle.progress.specs.Progress.{startOf};
+ghost use Rattle.progress.specs.Handing.{statusAfter, sessionAfter, fedOf};
 
 // Where a reading starts from a session.
 pub fn start(session: Session) -> Reached

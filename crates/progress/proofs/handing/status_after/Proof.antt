@@ -1,6 +1,6 @@
 use borrow.Author.Needs.{needs}
-use Rattle.turns.proofs.handing.status_after.Statement.{statement}
-use Rattle.turns.proofs.handing.status_after.Tie as tie
+use Rattle.progress.proofs.handing.status_after.Statement.{statement}
+use Rattle.progress.proofs.handing.status_after.Tie as tie
 
 enum-told : tie.Need-enum-told
 enum-told c = search needs
