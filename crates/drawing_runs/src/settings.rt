@@ -1,6 +1,6 @@
 // Runs of TEXT's operands, put straight into the words that hold the text.
 use crate::Drew;
-use drawing::data::with_due;
+use commands::data::with_due;
 use operands::whole::Whole;
 use operands::whole::whole_point;
 use pens::tips::Tip;
