@@ -1,8 +1,8 @@
-use Rattle.drawing.proofs.Prelude.{needs}
+use Rattle.commands.proofs.Prelude.{needs}
 use Rattle.rules.specs.Drawing.{finish}
-use Rattle.drawing.proofs.ClosingLaws.{text-past}
-use Rattle.drawing.proofs.closing.text_due.Statement.{statement}
-use Rattle.drawing.proofs.closing.text_due.Tie as tie
+use Rattle.commands.proofs.ClosingLaws.{text-past}
+use Rattle.commands.proofs.closing.text_due.Statement.{statement}
+use Rattle.commands.proofs.closing.text_due.Tie as tie
 
 returns : tie.Need-returns
 unfolding finish

@@ -1,7 +1,7 @@
-use Rattle.drawing.proofs.Prelude.{arith, needs}
-use Rattle.drawing.proofs.OperandLaws.{begun-refused, begun-drawn}
-use Rattle.drawing.proofs.data.apply_begun.Statement.{statement}
-use Rattle.drawing.proofs.data.apply_begun.Tie as tie
+use Rattle.commands.proofs.Prelude.{arith, needs}
+use Rattle.commands.proofs.OperandLaws.{begun-refused, begun-drawn}
+use Rattle.commands.proofs.data.apply_begun.Statement.{statement}
+use Rattle.commands.proofs.data.apply_begun.Tie as tie
 
 returns : tie.Need-returns
 returns c =

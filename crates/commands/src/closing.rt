@@ -78,7 +78,7 @@ pub fn new_command(opcode: u8, point: Point) -> Command
 // Closes the command that the row is of. An operand that is begun is applied first, the bytes that have not come being zero bits:
 // only it can be refused, before anything is written. Then SELECT COLOUR with no operand sets mode 0, TEXT sets the cursor, and
 // other commands finish by a figure or by none.
-pub(crate) fn close(
+pub fn close(
     row: Row,
     pen: Pen,
     command: Command,

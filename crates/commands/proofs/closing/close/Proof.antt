@@ -1,11 +1,11 @@
-use Rattle.drawing.proofs.Prelude.{arith, _≡_, refl, sym, _∙_, false, needs}
+use Rattle.commands.proofs.Prelude.{arith, _≡_, refl, sym, _∙_, false, needs}
 use mathlib.Core.Logic.{⊎-elim}
 use Rattle.rules.specs.Drawing.{complete, finish}
 use Rattle.figures.specs.Carried.{Carried, carry, drawingOf}
 use Rattle.figures.proofs.Carrying.{puts-carried}
-use Rattle.drawing.proofs.ClosingLaws.{nothing-begun, some-begun, complete-place, complete-length, met, look-apart, text-apart, not-foreground, close-length, close-refused, close-drawn}
-use Rattle.drawing.proofs.closing.close.Statement.{statement}
-use Rattle.drawing.proofs.closing.close.Tie as tie
+use Rattle.commands.proofs.ClosingLaws.{nothing-begun, some-begun, complete-place, complete-length, met, look-apart, text-apart, not-foreground, close-length, close-refused, close-drawn}
+use Rattle.commands.proofs.closing.close.Statement.{statement}
+use Rattle.commands.proofs.closing.close.Tie as tie
 
 apply-begun-requires : tie.Need-apply-begun-requires
 apply-begun-requires c κs =

@@ -1,5 +1,5 @@
 -- Closing, carried out.
-use Rattle.drawing.proofs.Prelude.{ℕ, _+_, _≤_, zero-le, arith, _≡_, refl, sym, ap, _∙_, Bool, true, false, List, [], _∷_, length, eqb, eq-eqb, ne-eqb}
+use Rattle.commands.proofs.Prelude.{ℕ, _+_, _≤_, zero-le, arith, _≡_, refl, sym, ap, _∙_, Bool, true, false, List, [], _∷_, length, eqb, ltb, eq-eqb, ne-eqb}
 use types.Run.{OneOf, miss}
 use denote.Enum.Declared.{tagOf}
 use Rattle.rules.proofs.Role.{the-type as the-role}
@@ -15,13 +15,13 @@ use Rattle.rules.specs.declared.Role.{Role}
 use Rattle.rules.specs.declared.Role.the-variants.{MoveTo, DrawTo, DrawBy, Middle, ArcEnd, Start, Edge, Lengths, Pel, TextFirst, TextSecond, TextField, TextMore, Foreground, Background, Shade, Dropped}
 use Rattle.rules.specs.Text.{closeText}
 use Rattle.rules.specs.Numbers.{recordSize, origin}
-use Rattle.rules.specs.Drawing.{rowOf, withPen, withCommand, withOperand, withMode, noOperand, Outcome, NotDrawn, Draw, andThen, roleDue, applyBegun, complete, finish, newCommand, close}
+use Rattle.rules.specs.Drawing.{rowOf, withPen, withCommand, withOperand, withMode, noOperand, Outcome, NotDrawn, Draw, prepend, andThen, arcTo, roleDue, applyBegun, complete, closingEdge, finish, newCommand, close}
 use Rattle.rules.proofs.Bools.{pick-yes, pick-no, pick-all, false-true}
+use Rattle.rules.proofs.DrawingRanges.{finish-all}
 use Rattle.rules.proofs.RecordCount.{AtMost, begun-most, close-most}
 use Rattle.figures.specs.Carried.{Carried, carry, drawingOf}
 use Rattle.figures.specs.Tracing.{finishesApart}
 use Rattle.figures.proofs.Carrying.{Draws, carry-none, carry-most, carry-length, then-refused, then-drawn}
-use Rattle.drawing.proofs.Refusals.{finish-draws, then-draws}
 
 module _ (r : Row) (d : Drawing) (at : ℕ) (l : List ℕ) where
   -- No operand is begun, or one is
@@ -101,6 +101,20 @@ unlike = 0 ∷ 1 ∷ 2 ∷ 3 ∷ 4 ∷ 5 ∷ 6 ∷ 7 ∷ 8 ∷ 9 ∷ 10 ∷ 11 �
 
 pub not-foreground : (n : Role) → OneOf unlike (tagOf the-role n) → n ≡ Foreground → ⊥
 not-foreground n k e = miss unlike 13 tt (rw e at k)
+
+-- After the begun operand closing refuses no more
+then-draws : (o : Outcome) (k : Drawing → Outcome) → Draws o → ((e : Drawing) → Draws (k e)) → Draws (andThen o k)
+unfolding andThen
+then-draws (NotDrawn r) k p f = p
+then-draws (Draw d rs) k p f = by (k d) (f d)
+  where
+    by : (o : Outcome) → Draws o → Draws (prepend rs o)
+    by (NotDrawn r) q = q
+    by (Draw e qs) q = tt
+
+pub finish-draws : (x : Role) (filled : Bool) (d : Drawing) → Draws (finish x filled d)
+unfolding arcTo closingEdge
+finish-draws x filled d = finish-all Draws x filled d tt tt (pick-all Draws (ltb 1 (d .command .vertices)) tt tt) tt (λ n. tt)
 
 -- An outcome that draws is not answered by a refusal
 draws-so : (o : Outcome) (d : Drawing) (at : ℕ) (l : List ℕ) (x : Carried) → Draws o → x ≡ carry o d at l → x .refused ≡ false

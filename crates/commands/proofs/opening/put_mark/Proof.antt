@@ -1,8 +1,8 @@
-use Rattle.drawing.proofs.Prelude.{now, ap, _∙_, List, ℕ, needs}
+use Rattle.commands.proofs.Prelude.{now, ap, _∙_, List, ℕ, needs}
 use Rattle.records.specs.Bytes.{overwrite}
-use Rattle.drawing.proofs.ActionLaws.{mark-bytes}
-use Rattle.drawing.proofs.opening.put_mark.Statement.{statement}
-use Rattle.drawing.proofs.opening.put_mark.Tie as tie
+use Rattle.commands.proofs.ActionLaws.{mark-bytes}
+use Rattle.commands.proofs.opening.put_mark.Statement.{statement}
+use Rattle.commands.proofs.opening.put_mark.Tie as tie
 
 returns : tie.Need-returns
 returns c =

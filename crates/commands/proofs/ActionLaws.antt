@@ -1,5 +1,5 @@
 -- Records of the drawing point and the opening of a command, carried out.
-use Rattle.drawing.proofs.Prelude.{ℕ, _+_, _≡_, false, List, _++_, set, eq-eqb, ne-eqb}
+use Rattle.commands.proofs.Prelude.{ℕ, _+_, _≡_, false, List, _++_, set, eq-eqb, ne-eqb}
 use Rattle.rules.specs.declared.Command.{Command}
 use Rattle.rules.specs.declared.Row.{Row}
 use Rattle.rules.specs.declared.Look.{Look}

@@ -1,5 +1,5 @@
 -- Data bytes and the operands they make, carried out.
-use Rattle.drawing.proofs.Prelude.{ℕ, suc, _≤_, _<_, _≡_, sym, ap, _∙_, true, false, List, [], length, ltb, eq-eqb, ne-eqb, lt-ltb, le-ltb}
+use Rattle.commands.proofs.Prelude.{ℕ, suc, _≤_, _<_, _≡_, sym, ap, _∙_, true, false, List, [], length, ltb, eq-eqb, ne-eqb, lt-ltb, le-ltb}
 use Rattle.rules.specs.declared.Drawing.{Drawing}
 use Rattle.rules.specs.declared.Pen.{Pen}
 use Rattle.rules.specs.declared.Row.{Row}

@@ -1,6 +1,6 @@
 use borrow.Author.Needs.{needs}
-use Rattle.drawing.proofs.data.with_due.Statement.{statement}
-use Rattle.drawing.proofs.data.with_due.Tie as tie
+use Rattle.commands.proofs.data.with_due.Statement.{statement}
+use Rattle.commands.proofs.data.with_due.Tie as tie
 
 returns : tie.Need-returns
 returns c =

@@ -1,7 +1,7 @@
-use Rattle.drawing.proofs.Prelude.{_∙_, needs}
+use Rattle.commands.proofs.Prelude.{_∙_, needs}
 use Rattle.figures.specs.Carried.{carry}
-use Rattle.drawing.proofs.data.next_operand.Statement.{statement}
-use Rattle.drawing.proofs.data.next_operand.Tie as tie
+use Rattle.commands.proofs.data.next_operand.Statement.{statement}
+use Rattle.commands.proofs.data.next_operand.Tie as tie
 
 returns : tie.Need-returns
 unfolding carry

@@ -72,7 +72,7 @@ fn next_operand(row: Row, pen: Pen, command: Command, look: Look, at: usize) -> 
 }
 
 // Applies the operand that is begun.
-pub(crate) fn apply_begun(
+pub fn apply_begun(
     row: Row,
     pen: Pen,
     command: Command,
@@ -121,7 +121,7 @@ fn join_byte(pen: Pen, byte: u8) -> Pen
 }
 
 // A byte is dropped, joins the operand, or is its last and applies it. A refused byte has not joined.
-pub(crate) fn data_byte(
+pub fn data_byte(
     row: Row,
     byte: u8,
     pen: Pen,

@@ -1,7 +1,7 @@
-use Rattle.drawing.proofs.Prelude.{_∙_, needs}
-use Rattle.drawing.proofs.OperandLaws.{data-dropped, data-joined, last-refused, last-drawn}
-use Rattle.drawing.proofs.data.data_byte.Statement.{statement}
-use Rattle.drawing.proofs.data.data_byte.Tie as tie
+use Rattle.commands.proofs.Prelude.{_∙_, needs}
+use Rattle.commands.proofs.OperandLaws.{data-dropped, data-joined, last-refused, last-drawn}
+use Rattle.commands.proofs.data.data_byte.Statement.{statement}
+use Rattle.commands.proofs.data.data_byte.Tie as tie
 
 returns : tie.Need-returns
 returns c =

@@ -1,8 +1,8 @@
-use Rattle.drawing.proofs.Prelude.{le-add-right, le-refl, ap, needs}
+use Rattle.commands.proofs.Prelude.{le-add-right, le-refl, ap, needs}
 use Rattle.rules.specs.declared.Command.{Command}
-use Rattle.drawing.proofs.ActionLaws.{open-marked, open-unmarked}
-use Rattle.drawing.proofs.opening.open_at.Statement.{statement}
-use Rattle.drawing.proofs.opening.open_at.Tie as tie
+use Rattle.commands.proofs.ActionLaws.{open-marked, open-unmarked}
+use Rattle.commands.proofs.opening.open_at.Statement.{statement}
+use Rattle.commands.proofs.opening.open_at.Tie as tie
 
 returns : tie.Need-returns
 returns c =

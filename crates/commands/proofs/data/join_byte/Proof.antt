@@ -1,6 +1,6 @@
-use Rattle.drawing.proofs.Prelude.{add-one, needs}
-use Rattle.drawing.proofs.data.join_byte.Statement.{statement}
-use Rattle.drawing.proofs.data.join_byte.Tie as tie
+use Rattle.commands.proofs.Prelude.{add-one, needs}
+use Rattle.commands.proofs.data.join_byte.Statement.{statement}
+use Rattle.commands.proofs.data.join_byte.Tie as tie
 
 returns : tie.Need-returns
 returns c = rw add-one
