@@ -34,7 +34,7 @@ use Rattle.turns.specs.Progress.{startOf, writtenTo, drawnTo}
 use Rattle.turns.specs.View.{stateAt, answered, sessionAfter, leftOf, DrawDueBy, DrawDue, RoomBy, readOnIf, textIf}
 use Rattle.rules.specs.Promises.{handedOf}
 use Rattle.turns.specs.Handing.{fedOf}
-use Rattle.turn_runs.specs.Walk.{Stands, reachedAt}
+use Rattle.coded_turns.specs.Walk.{Stands, reachedAt}
 use Rattle.turns.proofs.StepLaws.{draw-refused, draw-goes}
 use Rattle.reading.proofs.Whole.{Kept, Next, kept-first, kept-next, wholeReading}
 
