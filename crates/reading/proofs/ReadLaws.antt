@@ -35,7 +35,7 @@ use Rattle.turns.specs.View.{stateAt, answered, leftOf, DrawDueBy, DrawDue, Roo
 use Rattle.progress.specs.Handing.{sessionAfter}
 use Rattle.rules.specs.Promises.{handedOf}
 use Rattle.progress.specs.Handing.{fedOf}
-use Rattle.turn_runs.specs.Walk.{Stands, reachedAt}
+use Rattle.coded_turns.specs.Walk.{Stands, reachedAt}
 use Rattle.turns.proofs.StepLaws.{draw-refused, draw-goes}
 use Rattle.reading.proofs.Whole.{Kept, Next, kept-first, kept-next, wholeReading}
 

@@ -1,9 +1,9 @@
 // Runs of bytes that are drawn, from the cell of the innermost body or from the piece.
-use crate::awaits_nothing;
-use crate::is_marked;
-use crate::reach;
-use crate::set_in_use;
 use bodies::body_at;
+use coded_turns::awaits_nothing;
+use coded_turns::is_marked;
+use coded_turns::reach;
+use coded_turns::set_in_use;
 use command_runs::effectors::run_format;
 use command_runs::run_commands;
 use drawing_runs::Drew;
@@ -39,7 +39,7 @@ ghost use Rattle.store.specs.Lent.{Sized};
 ghost use Rattle.pens.specs.Words.{textFrom};
 ghost use Rattle.drawing_runs.specs.Drew.{DrawsTo};
 ghost use Rattle.turn_runs.specs.Drew.{tipAfter};
-ghost use Rattle.turn_runs.specs.Walk.{Walk, Fit, sourceOf, Lies, Passes, placesAfter, reachedAt};
+ghost use Rattle.coded_turns.specs.Walk.{Walk, Fit, sourceOf, Lies, Passes, placesAfter, reachedAt};
 
 fn none_drawn(tip: Tip, command: Command, at: usize) -> Drew
     ensures { λ r. ⌜ r ≡ record { count = 0; at = at; tip = tip; command = command } ⌝ }

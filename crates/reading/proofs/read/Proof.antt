@@ -5,7 +5,7 @@ use Rattle.figures.specs.Carried.{drawingOf}
 use Rattle.progress.specs.declared.Reached.{Reached}
 use Rattle.turns.specs.View.{stateAt}
 use Rattle.rules.proofs.Steps.{valid-store, valid-depth}
-use Rattle.turn_runs.proofs.ProgressLaws.{walk-steps}
+use Rattle.coded_turns.proofs.ProgressLaws.{walk-steps}
 use Rattle.reading.proofs.ReadLaws.{loop-first, loop-on, loop-ends, loop-draws, loop-refused, hands-over, drawn-room, stands-any, fed-text, text-refused}
 use Rattle.reading.proofs.WalkLaws.{walk-keeps}
 use Rattle.reading.proofs.Whole.{Kept}

@@ -1,8 +1,8 @@
-use Rattle.turn_runs.specs.Prelude.{now, ap, needs}
+use Rattle.coded_turns.specs.Prelude.{now, ap, needs}
 use Rattle.progress.specs.declared.Progress.{Progress}
-use Rattle.turn_runs.proofs.ProgressLaws.{walk-idle, coded-most}
-use Rattle.turn_runs.proofs.coded.idle_piece.Statement.{statement}
-use Rattle.turn_runs.proofs.coded.idle_piece.Tie as tie
+use Rattle.coded_turns.proofs.ProgressLaws.{walk-idle, coded-most}
+use Rattle.coded_turns.proofs.coded.idle_piece.Statement.{statement}
+use Rattle.coded_turns.proofs.coded.idle_piece.Tie as tie
 
 run-idle-requires : tie.Need-run-idle-requires
 run-idle-requires c κs = search needs

@@ -1,7 +1,7 @@
 use Rattle.rules.proofs.Bools.{false-true}
 use borrow.Author.Needs.{needs}
-use Rattle.turn_runs.proofs.awaits_nothing.Statement.{statement}
-use Rattle.turn_runs.proofs.awaits_nothing.Tie as tie
+use Rattle.coded_turns.proofs.awaits_nothing.Statement.{statement}
+use Rattle.coded_turns.proofs.awaits_nothing.Tie as tie
 
 enum-told : tie.Need-enum-told
 enum-told c = search needs

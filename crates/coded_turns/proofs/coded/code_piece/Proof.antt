@@ -1,11 +1,11 @@
-use Rattle.turn_runs.specs.Prelude.{now, arith, ap, _∙_, eqb-true, needs}
+use Rattle.coded_turns.specs.Prelude.{now, arith, ap, _∙_, eqb-true, needs}
 use Rattle.rules.specs.declared.Element.the-variants.{G0, G1}
 use Rattle.progress.specs.declared.Progress.{Progress}
-use Rattle.turn_runs.specs.Walk.{none}
-use Rattle.turn_runs.proofs.ProgressLaws.{none-runs, walk-lock, coded-most}
-use Rattle.turn_runs.proofs.RunLaws.{out-locks, in-locks}
-use Rattle.turn_runs.proofs.coded.code_piece.Statement.{statement}
-use Rattle.turn_runs.proofs.coded.code_piece.Tie as tie
+use Rattle.coded_turns.specs.Walk.{none}
+use Rattle.coded_turns.proofs.ProgressLaws.{none-runs, walk-lock, coded-most}
+use Rattle.coded_turns.proofs.RunLaws.{out-locks, in-locks}
+use Rattle.coded_turns.proofs.coded.code_piece.Statement.{statement}
+use Rattle.coded_turns.proofs.coded.code_piece.Tie as tie
 
 returns : tie.Need-returns
 returns c =

@@ -1,7 +1,7 @@
-use Rattle.turn_runs.specs.Prelude.{arith, sym, _∙_, needs}
-use Rattle.turn_runs.specs.Walk.{none}
-use Rattle.turn_runs.proofs.coded.names_piece.Statement.{statement}
-use Rattle.turn_runs.proofs.coded.names_piece.Tie as tie
+use Rattle.coded_turns.specs.Prelude.{arith, sym, _∙_, needs}
+use Rattle.coded_turns.specs.Walk.{none}
+use Rattle.coded_turns.proofs.coded.names_piece.Statement.{statement}
+use Rattle.coded_turns.proofs.coded.names_piece.Tie as tie
 
 set-in-use-requires : tie.Need-set-in-use-requires
 set-in-use-requires c κs = search needs

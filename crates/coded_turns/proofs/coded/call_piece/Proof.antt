@@ -1,8 +1,8 @@
-use Rattle.turn_runs.specs.Prelude.{now, arith, needs}
-use Rattle.turn_runs.proofs.ProgressLaws.{walk-calls, coded-most, coded-more}
-use Rattle.turn_runs.specs.Walk.{none}
-use Rattle.turn_runs.proofs.coded.call_piece.Statement.{statement}
-use Rattle.turn_runs.proofs.coded.call_piece.Tie as tie
+use Rattle.coded_turns.specs.Prelude.{now, arith, needs}
+use Rattle.coded_turns.proofs.ProgressLaws.{walk-calls, coded-most, coded-more}
+use Rattle.coded_turns.specs.Walk.{none}
+use Rattle.coded_turns.proofs.coded.call_piece.Statement.{statement}
+use Rattle.coded_turns.proofs.coded.call_piece.Tie as tie
 
 empty-calls-requires : tie.Need-empty-calls-requires
 empty-calls-requires c κs = search needs

@@ -1,8 +1,8 @@
-use Rattle.turn_runs.specs.Prelude.{ap, needs}
+use Rattle.coded_turns.specs.Prelude.{ap, needs}
 use Rattle.rules.specs.declared.Sets.{Sets}
 use Rattle.progress.specs.Progress.{codedOn}
-use Rattle.turn_runs.proofs.coded.lock.Statement.{statement}
-use Rattle.turn_runs.proofs.coded.lock.Tie as tie
+use Rattle.coded_turns.proofs.coded.lock.Statement.{statement}
+use Rattle.coded_turns.proofs.coded.lock.Tie as tie
 
 add-progress : tie.Need-add-progress
 add-progress c = search needs

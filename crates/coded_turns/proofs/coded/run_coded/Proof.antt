@@ -1,8 +1,8 @@
-use Rattle.turn_runs.specs.Prelude.{now, arith, ap, needs}
+use Rattle.coded_turns.specs.Prelude.{now, arith, ap, needs}
 use Rattle.progress.specs.declared.Progress.{Progress}
-use Rattle.turn_runs.proofs.ProgressLaws.{walk-then, walk-removed, removed-once}
-use Rattle.turn_runs.proofs.coded.run_coded.Statement.{statement}
-use Rattle.turn_runs.proofs.coded.run_coded.Tie as tie
+use Rattle.coded_turns.proofs.ProgressLaws.{walk-then, walk-removed, removed-once}
+use Rattle.coded_turns.proofs.coded.run_coded.Statement.{statement}
+use Rattle.coded_turns.proofs.coded.run_coded.Tie as tie
 
 depth-left-requires : tie.Need-depth-left-requires
 depth-left-requires c κs = search needs

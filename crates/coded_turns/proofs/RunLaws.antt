@@ -1,5 +1,5 @@
 -- Runs of bytes as walks
-use Rattle.turn_runs.specs.Prelude.{ℕ, zero, suc, _+_, _-_, _≤_, _<_, add-zero, add-suc, arith, _≡_, refl, sym, ap, _∙_, subst, Bool, true, false, List, [], _∷_, length, drop, getD, set, drop-cons, getD-set-same, set-getD, ltb, lt-ltb, le-ltb}
+use Rattle.coded_turns.specs.Prelude.{ℕ, zero, suc, _+_, _-_, _≤_, _<_, add-zero, add-suc, arith, _≡_, refl, sym, ap, _∙_, subst, Bool, true, false, List, [], _∷_, length, drop, getD, set, drop-cons, getD-set-same, set-getD, ltb, lt-ltb, le-ltb}
 use Rattle.rules.specs.declared.Action.{Action}
 use Rattle.rules.specs.declared.Action.the-variants.{Idle as Idle·action}
 use Rattle.rules.specs.declared.Bodies.{Bodies}
@@ -33,7 +33,7 @@ use Rattle.figures.specs.Carried.{Carried, carry}
 use Rattle.drawing_runs.specs.Run.{ActsAs, Run, none as run-none, more as run-more}
 use Rattle.store.specs.Each.{none as each-none, more as each-more}
 use Rattle.coding_runs.specs.Idle.{Coded, Idle}
-use Rattle.turn_runs.specs.Walk.{Place, placed, Walk, none, step}
+use Rattle.coded_turns.specs.Walk.{Place, placed, Walk, none, step}
 
 -- A byte that is found and accepted
 turn-found : (room n : ℕ) (w : State) (bs : List ℕ) {b : ℕ} {v u : State} {s : Source} {r : List ℕ} {rs : List Record}
