@@ -16,7 +16,7 @@ use Rattle.records.specs.Bytes.{overwrite}
 use Rattle.figures.specs.Carried.{carry, drawingOf}
 use Rattle.figures.specs.Tracing.{penAt, movedIf}
 use Rattle.figures.proofs.Carrying.{carry-none, puts-one, puts-carried, then-drawn}
-use Rattle.drawing.proofs.ClosingLaws.{none-begun, close-drawn}
+use Rattle.commands.proofs.ClosingLaws.{none-begun, close-drawn}
 use Rattle.drawing_runs.specs.Run.{standing}
 use Rattle.drawing_runs.specs.Strokes.{rested}
 use Rattle.command_runs.specs.Asked.{asked}

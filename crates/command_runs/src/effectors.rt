@@ -1,6 +1,6 @@
 // A format effector in a run of commands: it closes the open command, has its record and moves the cursor.
 use crate::opening::mark_next;
-use drawing::data::role_due;
+use commands::data::role_due;
 use drawing_runs::Drew;
 use figures::finishing::finishes_apart;
 use figures::tracing::either;

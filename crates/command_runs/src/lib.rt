@@ -5,8 +5,8 @@ pub mod points;
 
 use crate::opening::open_next;
 use crate::points::point_due;
-use drawing::data::role_due;
-use drawing::data::with_due;
+use commands::data::role_due;
+use commands::data::with_due;
 use drawing_runs::Passed;
 use drawing_runs::strokes::is_stroke;
 use figures::finishing::finishes_apart;

@@ -1,8 +1,8 @@
 // Commands closed and opened in a run, with no operand begun.
-use drawing::closing::new_command;
-use drawing::data::role_due;
-use drawing::opening::open_at;
-use drawing::opening::put_mark;
+use commands::closing::new_command;
+use commands::data::role_due;
+use commands::opening::open_at;
+use commands::opening::put_mark;
 use figures::finishing::finish;
 use figures::tracing::put_figure;
 use records::Head;

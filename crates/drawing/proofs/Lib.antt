@@ -1,7 +1,4 @@
 pub mod Prelude
 pub mod Refusals
 pub mod RangeLaws
-pub mod OperandLaws
-pub mod ClosingLaws
-pub mod ActionLaws
 pub mod AfterLaws

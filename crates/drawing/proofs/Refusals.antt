@@ -14,10 +14,10 @@ use Rattle.rules.specs.Numbers.{mostVertices}
 use Rattle.rules.specs.Operands.{begun}
 use Rattle.rules.specs.Drawing.{rowOf, lengthOf, Outcome, NotDrawn, Draw, prepend, andThen}
 use Rattle.rules.specs.Drawing.{drawFigure, arcMiddle, arcTo, edgeBy, shadeMap, shadeTo, apply, roleDue, applyBegun}
-use Rattle.rules.specs.Drawing.{withByte, takeByte, dataByte, complete, closingEdge, finish, close, openCommand, act}
+use Rattle.rules.specs.Drawing.{withByte, takeByte, dataByte, complete, finish, close, openCommand, act}
 use Rattle.rules.proofs.Bools.{pick-all}
-use Rattle.rules.proofs.DrawingRanges.{finish-all}
 use Rattle.figures.proofs.Carrying.{Draws}
+use Rattle.commands.proofs.ClosingLaws.{finish-draws}
 
 -- A refusal, if it is one, is that of a vertex too many
 abbrev pub OnlyVertices : Outcome → Type 0
@@ -79,20 +79,6 @@ data-vertices r b d =
     let n = lengthOf (roleDue r d) (d .look .domain) in
     pick-all OnlyVertices (eqb n 0) tt
     (pick-all OnlyVertices (ltb (suc (d .pen .operand .count)) n) tt (begun-vertices r (withByte b d)))
-
--- After the begun operand closing refuses no more
-pub then-draws : (o : Outcome) (k : Drawing → Outcome) → Draws o → ((e : Drawing) → Draws (k e)) → Draws (andThen o k)
-unfolding andThen
-then-draws (NotDrawn r) k p f = p
-then-draws (Draw d rs) k p f = by (k d) (f d)
-  where
-    by : (o : Outcome) → Draws o → Draws (prepend rs o)
-    by (NotDrawn r) q = q
-    by (Draw e qs) q = tt
-
-pub finish-draws : (x : Role) (filled : Bool) (d : Drawing) → Draws (finish x filled d)
-unfolding arcTo closingEdge
-finish-draws x filled d = finish-all Draws x filled d tt tt (pick-all Draws (ltb 1 (d .command .vertices)) tt tt) tt (λ n. tt)
 
 draws-vertices : (o : Outcome) → Draws o → OnlyVertices o
 draws-vertices (NotDrawn r) w = absurd w

@@ -1,11 +1,7 @@
 // The drawing layer: an action becomes records and a change of the drawing state, or a refusal.
-pub mod closing;
-pub mod data;
-pub mod opening;
-
-use crate::closing::close;
-use crate::data::data_byte;
-use crate::opening::open_at;
+use commands::closing::close;
+use commands::data::data_byte;
+use commands::opening::open_at;
 use figures::Drawn;
 use figures::answers::no_record;
 use moves::characters::typed;

@@ -1,8 +1,8 @@
 // The end of a page, once the tests of what is lent are passed.
 use bodies::bytes_left;
+use commands::closing::new_command;
+use commands::data::resting;
 use drawing::act;
-use drawing::closing::new_command;
-use drawing::data::resting;
 use rules::Action;
 use rules::Answer;
 use rules::Drawing;

@@ -1,14 +1,13 @@
 -- What the files of this crate use of the libraries, under one name
 pub use mathlib.Core.Path.{_≡_, refl, sym, ap, _∙_}
-pub use mathlib.Core.Bool.{Bool, true, false}
-pub use mathlib.Core.List.{List, [], _∷_, _++_, append-nil, append-assoc}
-pub use Prim.Native.Nat.{ℕ, zero, suc, _+_, _*_, _-_, _/_, _%_, _≤_, _<_, min, _^_}
-pub use native.Mathlib.Nat.{min-le-right, le-div-iff-mul-le, pow-suc, div-lt-iff-lt-mul}
+pub use mathlib.Core.List.{List, [], _∷_, _++_, append-nil}
+pub use Prim.Native.Nat.{ℕ, zero, suc, _+_, _*_, _-_, _/_, _≤_, _<_, min}
+pub use native.Mathlib.Nat.{min-le-right, le-div-iff-mul-le}
 pub use native.Mathlib.Numerals.{add-one}
 pub use native.Mathlib.Omega.{arith}
-pub use lib.ListN.{getD, length, take, drop, set, length-append, length-drop, drop-of-length-le}
+pub use lib.ListN.{getD, length, take, drop, length-drop, drop-of-length-le}
 pub use lib.Seq.{take-length, take-all, drop-drop, length-take-le}
 pub use lib.Dec.{ltb}
-pub use borrow.Author.Tests.{lt-ltb, le-ltb, ltb-false}
+pub use borrow.Author.Tests.{lt-ltb, le-ltb}
 pub use borrow.Author.Needs.{needs}
 pub use denote.Ref.{now}

@@ -1,5 +1,5 @@
 // Which drawing states are in range.
-use drawing::data::role_due;
+use commands::data::role_due;
 use rules::Colour;
 use rules::Command;
 use rules::Domain;

@@ -1,5 +1,5 @@
 // Opening a page.
-use drawing::closing::new_command;
+use commands::closing::new_command;
 use rules::Answer;
 use rules::Bodies;
 use rules::Coding;

@@ -25,16 +25,17 @@ use Rattle.figures.specs.declared.Drawn.{Drawn}
 use Rattle.figures.specs.Carried.{carry, drawingOf, carriedOf}
 use Rattle.bodies.specs.Stack.{bodiesOf}
 use Rattle.turns.specs.declared.step.Course.the-variants.{GoesOn, Ends, Draws}
-use Rattle.turns.specs.declared.progress.Progress.{Progress}
+use Rattle.progress.specs.declared.Progress.{Progress}
 use Rattle.turns.specs.declared.step.Turned.{Turned}
 use Rattle.rules.specs.declared.Fed.{Fed}
 use Rattle.turns.specs.Leaving.{Left, leaves}
-use Rattle.turns.specs.declared.progress.Reached.{Reached}
-use Rattle.turns.specs.Progress.{startOf, writtenTo, drawnTo}
-use Rattle.turns.specs.View.{stateAt, answered, sessionAfter, leftOf, DrawDueBy, DrawDue, RoomBy, readOnIf, textIf}
+use Rattle.progress.specs.declared.Reached.{Reached}
+use Rattle.progress.specs.Progress.{startOf, writtenTo, drawnTo}
+use Rattle.turns.specs.View.{stateAt, answered, leftOf, DrawDueBy, DrawDue, RoomBy, readOnIf, textIf}
+use Rattle.progress.specs.Handing.{sessionAfter}
 use Rattle.rules.specs.Promises.{handedOf}
-use Rattle.turns.specs.Handing.{fedOf}
-use Rattle.turn_runs.specs.Walk.{Stands, reachedAt}
+use Rattle.progress.specs.Handing.{fedOf}
+use Rattle.coded_turns.specs.Walk.{Stands, reachedAt}
 use Rattle.turns.proofs.StepLaws.{draw-refused, draw-goes}
 use Rattle.reading.proofs.Whole.{Kept, Next, kept-first, kept-next, wholeReading}
 

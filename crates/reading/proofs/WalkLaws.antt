@@ -3,8 +3,8 @@ use Rattle.reading.proofs.Prelude.{ℕ, _-_, _∙_, List, length, drop}
 use Rattle.rules.specs.Reading.{Room, stepsLeft}
 use Rattle.rules.specs.Step.{State, removeSpent}
 use Rattle.rules.proofs.Readings.{reading-removed}
-use Rattle.turn_runs.specs.Walk.{Place, Walk, none, removed, step}
-use Rattle.turn_runs.proofs.ProgressLaws.{walk-stands}
+use Rattle.coded_turns.specs.Walk.{Place, Walk, none, removed, step}
+use Rattle.coded_turns.proofs.ProgressLaws.{walk-stands}
 use Rattle.reading.proofs.Whole.{Kept, kept-on}
 
 abbrev KeptAt : State → List ℕ → List ℕ → Place → Type 0

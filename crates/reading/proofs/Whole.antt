@@ -14,8 +14,8 @@ use Rattle.records.proofs.Writes.{overwrite-length}
 use Rattle.turns.specs.declared.step.Course.{Course}
 use Rattle.turns.specs.declared.step.Course.the-variants.{GoesOn, Ends as Ends·course, Draws}
 use Rattle.turns.specs.Leaving.{Left, leaves}
-use Rattle.turn_runs.specs.Walk.{placed, Stands, none, step}
-use Rattle.turn_runs.proofs.ProgressLaws.{walk-stands}
+use Rattle.coded_turns.specs.Walk.{placed, Stands, none, step}
+use Rattle.coded_turns.proofs.ProgressLaws.{walk-stands}
 
 -- So many bytes consumed and records written before a reading
 abbrev ahead : ℕ → List ℕ → Reading → Reading

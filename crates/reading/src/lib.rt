@@ -1,15 +1,15 @@
 // A reading of a piece, turn by turn and run by run, as far as the output has room.
 use pens::words::put_text;
 use pens::words::text_of;
+use progress::after_drawing;
+use progress::handing::finish;
+use progress::handing::start;
+use progress::with_progress;
 use rules::Answer;
 use rules::Fed;
 use rules::Refusal;
 use rules::Session;
 use turn_runs::run::run;
-use turns::handing::finish;
-use turns::handing::start;
-use turns::progress::after_drawing;
-use turns::progress::with_progress;
 use turns::step::Course;
 use turns::step::draw;
 use turns::turn::turn;

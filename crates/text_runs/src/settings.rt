@@ -1,5 +1,5 @@
 // Runs of TEXT's operands, put straight into the words that hold the text.
-use drawing::data::with_due;
+use commands::data::with_due;
 use drawing_runs::Drew;
 use operands::whole::Whole;
 use operands::whole::whole_point;

@@ -1,9 +1,9 @@
 // Runs of bytes that are drawn, from the cell of the innermost body or from the piece.
-use crate::awaits_nothing;
-use crate::is_marked;
-use crate::reach;
-use crate::set_in_use;
 use bodies::body_at;
+use coded_turns::awaits_nothing;
+use coded_turns::is_marked;
+use coded_turns::reach;
+use coded_turns::set_in_use;
 use command_runs::effectors::run_format;
 use command_runs::run_commands;
 use drawing_runs::Drew;
@@ -13,6 +13,9 @@ use pens::tips::catch_up;
 use pens::tips::tip_of;
 use pens::words::put_text;
 use pens::words::text_of;
+use progress::Progress;
+use progress::Reached;
+use progress::after_run;
 use rules::Command;
 use rules::Look;
 use rules::Operand;
@@ -26,9 +29,6 @@ use store::cursors::stretch_of;
 use text_runs::characters::closes_at_once;
 use text_runs::characters::run_text;
 use text_runs::settings::set_text;
-use turns::progress::Progress;
-use turns::progress::Reached;
-use turns::progress::after_run;
 ghost use mathlib.Core.Path.{_≡_};
 ghost use mathlib.Core.Bool.{true};
 ghost use mathlib.Core.List.{List};
@@ -39,7 +39,7 @@ ghost use Rattle.store.specs.Lent.{Sized};
 ghost use Rattle.pens.specs.Words.{textFrom};
 ghost use Rattle.drawing_runs.specs.Drew.{DrawsTo};
 ghost use Rattle.turn_runs.specs.Drew.{tipAfter};
-ghost use Rattle.turn_runs.specs.Walk.{Walk, Fit, sourceOf, Lies, Passes, placesAfter, reachedAt};
+ghost use Rattle.coded_turns.specs.Walk.{Walk, Fit, sourceOf, Lies, Passes, placesAfter, reachedAt};
 
 fn none_drawn(tip: Tip, command: Command, at: usize) -> Drew
     ensures { λ r. ⌜ r ≡ record { count = 0; at = at; tip = tip; command = command } ⌝ }

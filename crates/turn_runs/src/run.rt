@@ -1,12 +1,12 @@
 // As many steps at once as can be taken.
-use crate::coded::run_coded;
 use crate::drawn::run_drawn;
-use turns::progress::Reached;
-use turns::progress::with_progress;
+use coded_turns::coded::run_coded;
+use progress::Reached;
+use progress::with_progress;
 ghost use mathlib.Core.List.{List};
 ghost use Prim.Native.Nat.{ℕ, _-_, _≤_};
 ghost use Rattle.turns.specs.View.{NoneSpent};
-ghost use Rattle.turn_runs.specs.Walk.{Walk, Stands, reachedAt};
+ghost use Rattle.coded_turns.specs.Walk.{Walk, Stands, reachedAt};
 
 // Spent bodies are removed, then bytes that write no record are read, then bytes that are drawn, as many of each as come. A run may stop
 // early without saying why, since a turn follows.

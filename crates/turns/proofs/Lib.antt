@@ -1,3 +1,2 @@
-pub mod ProgressLaws
 pub mod StepLaws
 pub mod TurnLaws

@@ -40,10 +40,10 @@ use Rattle.coding.specs.declared.reactions.Reacted.{Reacted}
 use Rattle.coding.proofs.EffectLaws.{act-kept}
 use Rattle.turns.specs.declared.step.Course.{Course}
 use Rattle.turns.specs.declared.step.Course.the-variants.{GoesOn, Ends as Ends·course, Draws}
-use Rattle.turns.specs.declared.progress.Progress.{Progress}
+use Rattle.progress.specs.declared.Progress.{Progress}
 use Rattle.turns.specs.declared.step.Turned.{Turned}
 use Rattle.turns.specs.Leaving.{sourceAt, readOn, stepBy, interpreted, Left, leaves}
-use Rattle.turns.specs.Progress.{stepsTo, writtenTo}
+use Rattle.progress.specs.Progress.{stepsTo, writtenTo}
 use Rattle.turns.specs.View.{stateAt, codingAfter, answered, leftBy, leftOf, DrawDueBy, DrawDue, RoomBy, Ready, readOnIf, textIf}
 
 -- 6 is for a byte from a body

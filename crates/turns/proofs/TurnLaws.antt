@@ -15,7 +15,7 @@ use Rattle.rules.specs.Reading.{consumedBy}
 use Rattle.rules.proofs.Bools.{true-false, false-true}
 use Rattle.bodies.specs.Stack.{bodiesOf}
 use Rattle.turns.specs.declared.step.Course.the-variants.{Ends as Ends·course}
-use Rattle.turns.specs.declared.progress.Progress.{Progress}
+use Rattle.progress.specs.declared.Progress.{Progress}
 use Rattle.turns.specs.declared.step.Turned.{Turned}
 use Rattle.turns.specs.Leaving.{nothingLeft, nextByte, sourceAt, advanced, interpreted, Left, leaves}
 use Rattle.turns.specs.View.{stateAt, leftOf, NoneSpent}

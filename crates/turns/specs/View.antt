@@ -4,8 +4,6 @@ use Rattle.rules.specs.declared.Bodies.{Bodies}
 use Rattle.rules.specs.declared.Coding.{Coding}
 use Rattle.rules.specs.declared.Cursor.{Cursor}
 use Rattle.rules.specs.declared.Drawing.{Drawing}
-use Rattle.rules.specs.declared.Session.{Session}
-use Rattle.rules.specs.declared.Status.{Status}
 use Rattle.rules.specs.declared.Status.the-variants.{Running, Stopped}
 use Rattle.rules.specs.declared.Text.{Text}
 use Rattle.rules.specs.declared.Answer.{Answer}
@@ -21,9 +19,9 @@ use Rattle.coding.specs.declared.reactions.Reacted.{Reacted}
 use Rattle.turns.specs.Leaving.{sourceAt, readOn, stepBy, Left, leaves}
 use Rattle.turns.specs.declared.step.Course.{Course}
 use Rattle.turns.specs.declared.step.Course.the-variants.{GoesOn, Ends, Draws}
-use Rattle.turns.specs.declared.progress.Progress.{Progress}
+use Rattle.progress.specs.declared.Progress.{Progress}
 use Rattle.turns.specs.declared.step.Turned.{Turned}
-use Rattle.turns.specs.Progress.{stepsTo}
+use Rattle.progress.specs.Progress.{stepsTo}
 
 abbrev pub stateAt : ℕ → Progress → List ℕ → List ℕ → List ℕ → Drawing → List ℕ → State
 stateAt budget p cells places firsts d st =
@@ -42,22 +40,6 @@ abbrev pub answered : Answer → State → State
 answered Done w = w
 answered Full w = w
 answered (Refused r) w = withStatus (Stopped r) w
-
-abbrev pub statusAfter : Answer → Status
-statusAfter Done = Running
-statusAfter Full = Running
-statusAfter (Refused r) = Stopped r
-
-abbrev pub sessionAfter : Answer → ℕ → Progress → List ℕ → List ℕ → List ℕ → Drawing → Session
-sessionAfter a budget p cells places firsts d =
-    record {
-      budget = budget;
-      steps = p .steps;
-      status = statusAfter a;
-      bodies = bodiesOf (p .depth) cells places;
-      coding = codingOf (p .sets) (p .waiting) firsts;
-      drawing = d;
-    }
 
 -- What a turn leaves by its course, from the progress p to q. One that ends the reading leaves p. Where an action is to be drawn, that is
 -- what drawing it leaves, the innermost body then read on at x

@@ -1,7 +1,4 @@
 // One step: a byte that was read is interpreted. All that can refuse it comes before the first change.
-use crate::progress::Progress;
-use crate::progress::Reached;
-use crate::progress::counted;
 use bodies::set_body;
 use coding::react;
 use coding::reactions::Effect;
@@ -13,6 +10,9 @@ use figures::Drawn;
 use pens::tips::pen_of;
 use pens::words::put_text;
 use pens::words::text_of;
+use progress::Progress;
+use progress::Reached;
+use progress::counted;
 use rules::Action;
 use rules::Answer;
 use rules::Cursor;

@@ -1,10 +1,10 @@
 // One turn of a reading where spent bodies are removed: the tests in their order, then a step.
-use crate::progress::Progress;
 use crate::step::Onward;
 use crate::step::Turned;
 use crate::step::ends;
 use crate::step::interpret;
 use bodies::innermost;
+use progress::Progress;
 use rules::Answer;
 use rules::Cursor;
 use rules::ROOM_FOR_STEP;

@@ -1,6 +1,6 @@
 use Rattle.drawing.proofs.Prelude.{arith, needs}
 use Rattle.figures.proofs.Carrying.{then-refused, then-drawn}
-use Rattle.drawing.proofs.ClosingLaws.{close-place}
+use Rattle.commands.proofs.ClosingLaws.{close-place}
 use Rattle.drawing.proofs.AfterLaws.{after-draws}
 use Rattle.drawing.proofs.close_and.Statement.{statement}
 use Rattle.drawing.proofs.close_and.Tie as tie

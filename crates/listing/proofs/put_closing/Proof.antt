@@ -1,4 +1,5 @@
-use Rattle.listing.proofs.Places.{joined, counts}
+use Rattle.digits.proofs.Places.{joined}
+use Rattle.listing.proofs.Places.{counts}
 use Rattle.listing.specs.Text.{closing}
 use Rattle.listing.specs.Prelude.{arith, needs}
 use Rattle.listing.proofs.put_closing.Statement.{statement}

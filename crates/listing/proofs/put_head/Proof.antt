@@ -1,7 +1,8 @@
 use Rattle.listing.specs.Prelude.{List, arith, add-one, _≡_, refl, ℕ, _+_, _*_, _-_, _≤_, length, lt-ltb, needs}
-use Rattle.listing.proofs.Decimals.{decimal-length}
-use Rattle.listing.proofs.Places.{nothing, joined}
-use Rattle.listing.specs.Text.{fieldOf, separator, fieldsTo, Put}
+use Rattle.digits.proofs.Decimals.{decimal-length}
+use Rattle.digits.proofs.Places.{nothing, joined}
+use Rattle.digits.specs.Decimal.{Put}
+use Rattle.listing.specs.Text.{fieldOf, separator, fieldsTo}
 use Rattle.listing.proofs.put_head.Statement.{statement}
 use Rattle.listing.proofs.put_head.Tie as tie
 

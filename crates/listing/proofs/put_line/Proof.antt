@@ -1,5 +1,6 @@
-use Rattle.listing.proofs.Places.{joined}
-use Rattle.listing.specs.Text.{fieldOf, fieldsTo, Put}
+use Rattle.digits.proofs.Places.{joined}
+use Rattle.digits.specs.Decimal.{Put}
+use Rattle.listing.specs.Text.{fieldOf, fieldsTo}
 use Rattle.listing.specs.Prelude.{arith, add-one, _≡_, refl, List, ℕ, _+_, _*_, _-_, _≤_, length, le-ltb, needs}
 use Rattle.listing.proofs.put_line.Statement.{statement}
 use Rattle.listing.proofs.put_line.Tie as tie

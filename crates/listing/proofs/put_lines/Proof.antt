@@ -1,6 +1,8 @@
 use Rattle.listing.specs.Prelude.{List, arith, add-one, _≡_, refl, ap, ℕ, _+_, _*_, _-_, _/_, _≤_, length, now, min-le-right, needs}
-use Rattle.listing.proofs.Places.{nothing, joined, counts, record-fits}
-use Rattle.listing.specs.Text.{linesTo, Put}
+use Rattle.digits.proofs.Places.{nothing, joined}
+use Rattle.listing.proofs.Places.{counts, record-fits}
+use Rattle.digits.specs.Decimal.{Put}
+use Rattle.listing.specs.Text.{linesTo}
 use Rattle.listing.proofs.put_lines.Statement.{statement}
 use Rattle.listing.proofs.put_lines.Tie as tie
 

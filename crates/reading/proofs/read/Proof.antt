@@ -2,10 +2,10 @@ use Rattle.reading.proofs.Prelude.{now, needs, arith, refl, sym, ap, _�
 use Rattle.pens.specs.Tips.{penOf}
 use Rattle.pens.specs.Words.{textFrom}
 use Rattle.figures.specs.Carried.{drawingOf}
-use Rattle.turns.specs.declared.progress.Reached.{Reached}
+use Rattle.progress.specs.declared.Reached.{Reached}
 use Rattle.turns.specs.View.{stateAt}
 use Rattle.rules.proofs.Steps.{valid-store, valid-depth}
-use Rattle.turn_runs.proofs.ProgressLaws.{walk-steps}
+use Rattle.coded_turns.proofs.ProgressLaws.{walk-steps}
 use Rattle.reading.proofs.ReadLaws.{loop-first, loop-on, loop-ends, loop-draws, loop-refused, hands-over, drawn-room, stands-any, fed-text, text-refused}
 use Rattle.reading.proofs.WalkLaws.{walk-keeps}
 use Rattle.reading.proofs.Whole.{Kept}

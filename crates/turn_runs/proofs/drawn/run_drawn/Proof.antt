@@ -1,8 +1,8 @@
 use Rattle.turn_runs.specs.Prelude.{now, arith, refl, ap, _∙_, List, ℕ, length, not-false, needs}
 use Rattle.pens.specs.Tips.{penOf}
 use Rattle.pens.specs.Words.{textFrom}
-use Rattle.turns.specs.declared.progress.Progress.{Progress}
-use Rattle.turn_runs.specs.Walk.{none}
+use Rattle.progress.specs.declared.Progress.{Progress}
+use Rattle.coded_turns.specs.Walk.{none}
 use Rattle.turn_runs.proofs.ProgressLaws.{walk-run, lies-most, past-none}
 use Rattle.turn_runs.proofs.drawn.run_drawn.Statement.{statement}
 use Rattle.turn_runs.proofs.drawn.run_drawn.Tie as tie

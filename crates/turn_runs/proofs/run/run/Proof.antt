@@ -1,10 +1,11 @@
 use Rattle.turn_runs.specs.Prelude.{now, arith, refl, ap, ℕ, List, [], needs}
 use Rattle.pens.specs.Tips.{penOf}
 use Rattle.pens.specs.Words.{textFrom}
-use Rattle.turns.specs.declared.progress.Reached.{Reached}
+use Rattle.progress.specs.declared.Reached.{Reached}
 use Rattle.figures.specs.Carried.{drawingOf}
 use Rattle.rules.proofs.Steps.{valid-store, valid-depth}
-use Rattle.turn_runs.proofs.ProgressLaws.{walk-then, walk-from, walk-stands, walk-steps, valid-domain, valid-command}
+use Rattle.coded_turns.proofs.ProgressLaws.{walk-then, walk-stands, walk-steps}
+use Rattle.turn_runs.proofs.ProgressLaws.{walk-from, valid-domain, valid-command}
 use Rattle.turn_runs.proofs.run.run.Statement.{statement}
 use Rattle.turn_runs.proofs.run.run.Tie as tie
 

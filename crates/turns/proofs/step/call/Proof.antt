@@ -1,5 +1,5 @@
 use Rattle.rules.specs.declared.Sets.{Sets}
-use Rattle.turns.specs.Progress.{stepsTo}
+use Rattle.progress.specs.Progress.{stepsTo}
 use Rattle.coding.specs.View.{setsAfter}
 use Rattle.turns.proofs.StepLaws.{ends-due, call-deep, call-goes, call-sets}
 use Rattle.turns.specs.Prelude.{_+_, ap, _∙_, now, needs}

@@ -1,0 +1,4 @@
+pub mod Prelude
+pub mod OperandLaws
+pub mod ClosingLaws
+pub mod ActionLaws

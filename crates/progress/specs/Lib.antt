@@ -1,0 +1,3 @@
+pub mod Prelude
+pub mod Progress
+pub mod Handing
