@@ -102,6 +102,11 @@ module _ (bytes : List ℕ) (from : ℕ) (c : Command) (l : Look) (t : Text) whe
   pub none-set : (u : Text) → u ≡ t → SetsTo bytes from c l t 0 c u
   none-set u f p o m at out fresh eight room = rw f none
 
+-- What one or more bytes leave of an operand
+pub none-begun : (n : ℕ) (o : Operand) → (n ≡ 0 → ⊥) → noOperand ≡ operandAfter n o
+none-begun zero o h = absurd (h refl)
+none-begun (suc n) o h = refl
+
 -- Operands after operands
 after-begun : (n : ℕ) (o : Operand) → o .count ≡ 0 → operandAfter n o .count ≡ 0
 after-begun zero o e = e
@@ -111,13 +116,9 @@ after-eight : (n : ℕ) (o : Operand) → length (o .bytes) ≡ 8 → length (op
 after-eight zero o e = e
 after-eight (suc n) o e = refl
 
-after-some : (n : ℕ) (o : Operand) → 1 ≤ n → noOperand ≡ operandAfter n o
-after-some zero o h = absurd (omega arith)
-after-some (suc n) o h = refl
-
 after-after : (n k : ℕ) (o : Operand) → operandAfter k (operandAfter n o) ≡ operandAfter (n + k) o
 after-after n zero o = ap (λ (j : ℕ). operandAfter j o) (sym (add-zero n))
-after-after n (suc k) o = after-some (n + suc k) o (omega arith)
+after-after n (suc k) o = none-begun (n + suc k) o (λ z. absurd (omega (arith, z)))
 
 pub sets-then : (bytes : List ℕ) (from : ℕ) (l : Look) (c d e : Command) (t u v : Text) (n k : ℕ)
     → SetsTo bytes from c l t n d u → SetsTo bytes (from + n) d l u k e v → SetsTo bytes from c l t (n + k) e v
@@ -126,11 +127,7 @@ sets-then bytes from l c d e t u v n k a b p o m at out fresh eight room =
     subst (λ (w : Operand). Run Pdi bytes from (standing (penAt p t o) c l m at out) (n + k) (standing (penAt p v w) e l m at out)) (after-after n k o)
     (run-then (a p o m at out fresh eight room) q)
 
--- What one or more bytes leave of an operand
-pub none-begun : (n : ℕ) (o : Operand) → (n ≡ 0 → ⊥) → noOperand ≡ operandAfter n o
-none-begun zero o h = absurd (h refl)
-none-begun (suc n) o h = refl
-
+-- The operand after TEXT's next is due
 pub command-on : (n : ℕ) (c : Command) → (n ≡ 0 → ⊥) → withDue (dueAfter Text·pattern (c .due)) c ≡ commandAfter n c
 unfolding dueAfter
 command-on zero c h = absurd (h refl)
