@@ -20,12 +20,12 @@ use Rattle.records.proofs.Writes.{overwrite-length}
 use Rattle.store.specs.Each.{none as each-none, more as each-more}
 use Rattle.bodies.specs.Stack.{bodiesOf}
 use Rattle.bodies.specs.Calls.{CallsEmpty}
-use Rattle.coding.specs.View.{codingOf}
+use Rattle.reactions.specs.View.{codingOf}
 use Rattle.coding_runs.specs.Idle.{Idle, coded}
 use Rattle.coding_runs.specs.declared.Idled.{Idled}
 use Rattle.progress.specs.declared.Progress.{Progress}
 use Rattle.progress.specs.Progress.{atDepth, codedOn}
-use Rattle.turns.specs.View.{stateAt, NoneSpent}
+use Rattle.steps.specs.View.{stateAt, NoneSpent}
 use Rattle.coded_turns.specs.Walk.{Place, placed, placeAt, Walk, none, removed, step, Stands}
 use Rattle.coded_turns.proofs.RunLaws.{react-lock, idle-walk, calls-walk}
 

@@ -15,7 +15,7 @@ use Rattle.store.specs.Stretch.{Gives}
 use Rattle.bodies.specs.Stack.{bodiesOf}
 use Rattle.figures.specs.Carried.{drawingOf}
 use Rattle.progress.specs.declared.Progress.{Progress}
-use Rattle.turns.specs.View.{stateAt}
+use Rattle.steps.specs.View.{stateAt}
 use Rattle.progress.specs.declared.Reached.{Reached}
 
 -- Where a reading stands: its state, the place of the piece, the place of the output, and the output

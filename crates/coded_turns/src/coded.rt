@@ -27,7 +27,7 @@ ghost use Rattle.rules.specs.Coding.{setOf, inUse};
 ghost use Rattle.rules.specs.Ranges.{waitingFits};
 ghost use Rattle.store.specs.Lent.{Sized};
 ghost use Rattle.progress.specs.Progress.{codedOn};
-ghost use Rattle.turns.specs.View.{NoneSpent};
+ghost use Rattle.steps.specs.View.{NoneSpent};
 ghost use Rattle.coded_turns.specs.Walk.{placeAt, Walk};
 
 // The control 0/14, which puts G1 in use.

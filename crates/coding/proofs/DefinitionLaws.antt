@@ -17,8 +17,8 @@ use Rattle.definitions.specs.Storing.{storingOf}
 use Rattle.store.specs.declared.chains.FreeAnswer.{FreeAnswer}
 use Rattle.store.specs.declared.chains.FreeAnswer.the-variants.{Done as Freed, Refused as NotFreed}
 use Rattle.definitions.specs.declared.appending.StoreAnswer.{StoreAnswer}
-use Rattle.coding.specs.View.{codingOf, reactionOf}
-use Rattle.coding.specs.declared.reactions.Reacted.{Reacted}
+use Rattle.reactions.specs.View.{codingOf, reactionOf}
+use Rattle.reactions.specs.declared.Reacted.{Reacted}
 
 -- The name: below 2/0, and from there on
 module _ (c : Coding) (st : List ℕ) (b : ℕ) where

@@ -25,10 +25,10 @@ use Rattle.rules.specs.Numbers.{esc}
 use Rattle.rules.specs.Store.{firstOf, Freeing, NotFreed, Freed, freeBody, Storing, NotStored, Stored, storeByte, storeEscapeAnd}
 use Rattle.rules.specs.Coding.{Reaction, Refuse, Call, React, setOf, shiftedTo, wait, named, openBody, keep, filling, inBody, innerOf, inBodyEscape, finalOf, escape, designatedBy, designation, control, addressByte, graphic, classOf, reactTo, react}
 use Rattle.store.specs.Lent.{IsName}
-use Rattle.coding.specs.View.{codingOf, effectOn, setsAfter, reactionOf}
-use Rattle.coding.specs.declared.reactions.Effect.{Effect}
-use Rattle.coding.specs.declared.reactions.Effect.the-variants.{Calls, Acts}
-use Rattle.coding.specs.declared.reactions.Reacted.{Reacted}
+use Rattle.reactions.specs.View.{codingOf, effectOn, setsAfter, reactionOf}
+use Rattle.reactions.specs.declared.Effect.{Effect}
+use Rattle.reactions.specs.declared.Effect.the-variants.{Calls, Acts}
+use Rattle.reactions.specs.declared.Reacted.{Reacted}
 
 -- Of the reaction to byte b in the state c with the store st
 abbrev pub Told : Coding → List ℕ → ℕ → Reaction → Type 0

@@ -1,4 +1,3 @@
-pub mod Answers
 pub mod DefinitionLaws
 pub mod ReactLaws
 pub mod EffectLaws

@@ -1,34 +1,23 @@
--- The reaction by what is waited for, and the sets after it.
-use Rattle.coding.specs.Prelude.{_≡_, refl, true, List, [], _∷_, ℕ, _<_, _≤_, lt-ltb, le-ltb, leb-true, leb, eqb}
+-- The reaction by what is waited for.
+use Rattle.coding.specs.Prelude.{_≡_, refl, true, List, [], _∷_, ℕ, _<_, _≤_, lt-ltb, le-ltb, leb-true, leb}
 use types.Run.{OneOf, miss}
 use denote.Enum.Declared.{tagOf}
-use Rattle.rules.proofs.Action.{the-type as the-action}
 use Rattle.rules.proofs.Waiting.{the-type as the-waiting}
-use Rattle.coding.proofs.reactions.Effect.{the-type as the-effect}
-use Rattle.rules.proofs.Bools.{and-left, and-right, pick-all}
-use Rattle.rules.specs.declared.Action.{Action}
-use Rattle.rules.specs.declared.Action.the-variants.{Idle, Close, Control, Format, Reset, Position, Character, Opcode, Data}
+use Rattle.rules.proofs.Bools.{and-left, and-right}
 use Rattle.rules.specs.declared.Class.{Class}
 use Rattle.rules.specs.declared.Class.the-variants.{Below, Column2, Above}
 use Rattle.rules.specs.declared.Coding.{Coding}
-use Rattle.rules.specs.declared.Control.the-variants.{Positions}
 use Rattle.rules.specs.declared.Definition.{Definition}
-use Rattle.rules.specs.declared.Positioning.{Positioning}
-use Rattle.rules.specs.declared.Positioning.the-variants.{Aps, Nsr}
-use Rattle.rules.specs.declared.Repertoire.{Repertoire}
-use Rattle.rules.specs.declared.Repertoire.the-variants.{Primary, Supplementary, Mosaic, Drcs}
 use Rattle.rules.specs.declared.Set.{Set}
-use Rattle.rules.specs.declared.Set.the-variants.{Characters}
 use Rattle.rules.specs.declared.Refusal.the-variants.{ByteOver127}
 use Rattle.rules.specs.declared.Sets.{Sets}
 use Rattle.rules.specs.declared.Waiting.{Waiting}
 use Rattle.rules.specs.declared.Waiting.the-variants.{Nothing, Shifted, Escape, Designator, Longer, Name, Body, BodyEscape, Row, Column}
-use Rattle.rules.specs.Coding.{Refuse, React, positioningAction, control, character, graphic, classOf, reactTo, react}
+use Rattle.rules.specs.Coding.{Refuse, classOf, reactTo, react}
 use Rattle.rules.specs.Ranges.{nameFits}
 use Rattle.store.specs.Lent.{IsName}
-use Rattle.coding.specs.View.{codingOf, resetSets, setsAfter, elementRead, setRead, readFrom}
-use Rattle.coding.specs.declared.reactions.Effect.{Effect}
-use Rattle.coding.specs.declared.reactions.Effect.the-variants.{Refuses, Calls, Acts, Uses, Designates}
+use Rattle.reactions.specs.View.{codingOf, readFrom}
+use Rattle.coding.specs.SetRead.{elementRead, setRead}
 
 -- The name being defined is one of the 96
 pub is-name : (d : Definition) → nameFits d ≡ true → IsName (d .name)
@@ -37,52 +26,6 @@ is-name d h =
     let least = leb 32 (d .name) in
     let most = leb (d .name) 127 in
     (leb-true 32 (d .name) (and-left least most h), leb-true (d .name) 127 (and-right least most h))
-
--- The sets after an action: only that of NSR resets them
-abbrev no-reset : List ℕ
-no-reset = 0 ∷ 1 ∷ 2 ∷ 3 ∷ 5 ∷ 6 ∷ 7 ∷ 8 ∷ []
-
-pub others-keep : (a : Action) (s : Sets) → OneOf no-reset (tagOf the-action a) → s ≡ resetSets a s
-others-keep Idle s h = refl
-others-keep Close s h = refl
-others-keep (Control b) s h = refl
-others-keep (Format f b) s h = refl
-others-keep (Reset b) s h = absurd (miss no-reset 4 tt h)
-others-keep (Position x r c) s h = refl
-others-keep (Character x b) s h = refl
-others-keep (Opcode b) s h = refl
-others-keep (Data b) s h = refl
-
-character-keeps : (x : Repertoire) (b : ℕ) (s : Sets) → resetSets (character x b) s ≡ s
-unfolding character
-character-keeps Primary b s = pick-all (λ a. resetSets a s ≡ s) (eqb b 127) refl refl
-character-keeps Supplementary b s = pick-all (λ a. resetSets a s ≡ s) (eqb b 127) refl refl
-character-keeps Mosaic b s = refl
-character-keeps Drcs b s = refl
-
-pub character-acts : (x : Repertoire) (b : ℕ) (s : Sets) (f st : List ℕ) (a : Action) → a ≡ character x b
-    → React (codingOf (resetSets a s) Nothing f) st a ≡ graphic (Characters x) (codingOf s Nothing f) st b
-unfolding graphic
-character-acts x b s f st a e = rw (e, character-keeps x b s) refl
-
--- APS and NSR: their action, and a row byte is due
-pub row-due : (x : Positioning) (b : ℕ) (s : Sets) (f st : List ℕ)
-    → React (codingOf (resetSets (positioningAction x b) s) (Row x) f) st (positioningAction x b)
-    ≡ control (Positions x) (codingOf s Nothing f) st b
-unfolding control
-row-due Aps b s f st = refl
-row-due Nsr b s f st = refl
-
--- The sets after an effect: most leave them
-abbrev no-change : List ℕ
-no-change = 0 ∷ 1 ∷ []
-
-pub others-leave : (e : Effect) (s : Sets) → OneOf no-change (tagOf the-effect e) → s ≡ setsAfter e s
-others-leave (Refuses r) s h = refl
-others-leave (Calls n) s h = refl
-others-leave (Acts a) s h = absurd (miss no-change 2 tt h)
-others-leave (Uses e) s h = absurd (miss no-change 3 tt h)
-others-leave (Designates e x) s h = absurd (miss no-change 4 tt h)
 
 -- The element that a byte is read from: without a single shift, the one in use
 abbrev no-shift : List ℕ

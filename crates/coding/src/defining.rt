@@ -1,10 +1,10 @@
 // A byte of a macro definition: its name, then the bytes that are stored.
-use crate::reactions::Reacted;
-use crate::reactions::refuse;
-use crate::reactions::wait_for;
 use definitions::appending::StoreAnswer;
 use definitions::appending::store_byte;
 use definitions::escapes::store_escape_and;
+use reactions::Reacted;
+use reactions::refuse;
+use reactions::wait_for;
 use rules::Definition;
 use rules::ESC;
 use rules::Inner;
@@ -24,7 +24,7 @@ ghost use Rattle.rules.specs.declared.Sets.{Sets};
 ghost use Rattle.rules.specs.Coding.{keep, openBody, inBody, innerOf, inBodyEscape, classOf, reactTo};
 ghost use Rattle.store.specs.Lent.{Sized, IsName};
 ghost use Rattle.definitions.specs.Storing.{storingOf, KeptIfRefused};
-ghost use Rattle.coding.specs.View.{codingOf, reactionOf, AsLent};
+ghost use Rattle.reactions.specs.View.{codingOf, reactionOf, AsLent};
 
 // Frees the old body of the name.
 fn open_body(firsts: &mut [u8; 96], store: &mut [u8], name: u8) -> Reacted

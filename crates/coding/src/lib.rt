@@ -1,21 +1,17 @@
 // The coding layer: what a byte does by what is waited for. It asks an action of drawing, calls a macro or is refused.
-pub mod characters;
 pub mod defining;
-pub mod escapes;
-pub mod positions;
-pub mod reactions;
 
-use crate::characters::read_from;
 use crate::defining::in_body;
 use crate::defining::in_body_escape;
 use crate::defining::take_name;
-use crate::escapes::in_designation;
-use crate::escapes::in_escape;
-use crate::escapes::in_longer;
-use crate::positions::take_column;
-use crate::positions::take_row;
-use crate::reactions::Reacted;
-use crate::reactions::refuse;
+use reactions::Reacted;
+use reactions::characters::read_from;
+use reactions::escapes::in_designation;
+use reactions::escapes::in_escape;
+use reactions::escapes::in_longer;
+use reactions::positions::take_column;
+use reactions::positions::take_row;
+use reactions::refuse;
 use rules::Element;
 use rules::Refusal;
 use rules::Set;
@@ -28,7 +24,8 @@ ghost use mathlib.Core.Bool.{true};
 ghost use Rattle.rules.specs.Coding.{react};
 ghost use Rattle.rules.specs.Ranges.{waitingFits};
 ghost use Rattle.store.specs.Lent.{Sized};
-ghost use Rattle.coding.specs.View.{codingOf, reactionOf, elementRead, setRead, AsLent};
+ghost use Rattle.reactions.specs.View.{codingOf, reactionOf, AsLent};
+ghost use Rattle.coding.specs.SetRead.{elementRead, setRead};
 
 // The element that a byte is read from: the one a single shift names, else the one in use.
 fn element_read(waiting: Waiting, sets: Sets) -> Element

@@ -12,7 +12,7 @@ use Rattle.store.specs.Each.{none}
 use Rattle.store.proofs.EachLaws.{each-on}
 use Rattle.coding_runs.specs.Idle.{coded, Idle}
 use Rattle.coding_runs.specs.declared.defining.Defined.{Defined}
-use Rattle.coding.specs.View.{codingOf}
+use Rattle.reactions.specs.View.{codingOf}
 
 -- The reactions to ESC 4/0 where nothing is waited for, and to ESC 4/5 in a body
 module _ (s : Sets) (f st : List ℕ) where

@@ -19,10 +19,10 @@ use Rattle.store.specs.Each.{none, more}
 use Rattle.store.specs.Runs.{StoresByte, Stores}
 use Rattle.store.proofs.EachLaws.{each-as}
 use Rattle.coding_runs.specs.Idle.{Coded, coded, IdleByte, Idle, idleAction, idleEffect}
-use Rattle.coding.specs.View.{codingOf, effectOn, setsAfter, reactionOf, AsLentBy, AsLent}
-use Rattle.coding.specs.declared.reactions.Effect.{Effect}
-use Rattle.coding.specs.declared.reactions.Effect.the-variants.{Refuses, Calls, Acts, Uses, Designates}
-use Rattle.coding.specs.declared.reactions.Reacted.{Reacted}
+use Rattle.reactions.specs.View.{codingOf, effectOn, setsAfter, reactionOf, AsLentBy, AsLent}
+use Rattle.reactions.specs.declared.Effect.{Effect}
+use Rattle.reactions.specs.declared.Effect.the-variants.{Refuses, Calls, Acts, Uses, Designates}
+use Rattle.reactions.specs.declared.Reacted.{Reacted}
 use Rattle.coding.proofs.EffectLaws.{act-kept}
 
 -- What is waited for stays in range; a run of no byte changes nothing

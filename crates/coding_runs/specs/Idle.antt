@@ -5,8 +5,8 @@ use Rattle.rules.specs.declared.Action.the-variants.{Idle as Idle·action, Clos
 use Rattle.rules.specs.declared.Coding.{Coding}
 use Rattle.rules.specs.Coding.{React, react}
 use Rattle.store.specs.Each.{Each}
-use Rattle.coding.specs.declared.reactions.Effect.{Effect}
-use Rattle.coding.specs.declared.reactions.Effect.the-variants.{Refuses, Calls, Acts, Uses, Designates}
+use Rattle.reactions.specs.declared.Effect.{Effect}
+use Rattle.reactions.specs.declared.Effect.the-variants.{Refuses, Calls, Acts, Uses, Designates}
 
 -- The state of the coding layer, and the store
 pub record Coded : Type 0 where

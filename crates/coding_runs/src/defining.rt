@@ -13,7 +13,7 @@ ghost use Rattle.rules.specs.Numbers.{esc};
 ghost use Rattle.rules.specs.Ranges.{waitingFits};
 ghost use Rattle.store.specs.Lent.{Sized, IsName};
 ghost use Rattle.coding_runs.specs.Idle.{Idle, coded};
-ghost use Rattle.coding.specs.View.{codingOf};
+ghost use Rattle.reactions.specs.View.{codingOf};
 
 // After ESC, 4/0 opens a definition and 4/5 ends one.
 const OPENS: u8 = 64;

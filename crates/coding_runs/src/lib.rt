@@ -3,9 +3,9 @@ pub mod defining;
 
 use crate::defining::run_definition;
 use coding::react;
-use coding::reactions::Effect;
-use coding::reactions::sets_after;
 use coding::set_read;
+use reactions::Effect;
+use reactions::sets_after;
 use rules::Action;
 use rules::Sets;
 use rules::Waiting;
@@ -16,7 +16,7 @@ ghost use Prim.Native.Nat.{_+_, _<_, _≤_};
 ghost use Rattle.rules.specs.Ranges.{waitingFits};
 ghost use Rattle.store.specs.Lent.{Sized};
 ghost use Rattle.coding_runs.specs.Idle.{Idle, coded, idleEffect};
-ghost use Rattle.coding.specs.View.{codingOf};
+ghost use Rattle.reactions.specs.View.{codingOf};
 
 // How many bytes were read, and the state after them. First cells and store are lent beside.
 pub struct Idled {

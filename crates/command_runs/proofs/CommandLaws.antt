@@ -1,10 +1,9 @@
 -- Runs put together.
-use Rattle.command_runs.specs.Prelude.{ℕ, zero, suc, _+_, _-_, _≤_, _<_, add-one, arith, _≡_, refl, sym, ap, _∙_, subst, Bool, true, false, _&&_, _||_, List, leb, length, getD, lt-ltb, le-ltb, leb-true}
+use Rattle.command_runs.proofs.Prelude.{ℕ, zero, suc, _+_, _-_, _≤_, _<_, add-one, arith, _≡_, refl, sym, ap, _∙_, subst, Bool, true, false, _||_, List, length, getD, lt-ltb, le-ltb}
 use Rattle.rules.specs.declared.Action.{Action}
 use Rattle.rules.specs.declared.Action.the-variants.{Control, Opcode, Data}
 use Rattle.rules.specs.declared.Command.{Command}
 use Rattle.rules.specs.declared.Control.the-variants.{Ignored, Recorded}
-use Rattle.rules.specs.declared.Domain.{Domain}
 use Rattle.rules.specs.declared.Drawing.{Drawing}
 use Rattle.rules.specs.declared.Look.{Look}
 use Rattle.rules.specs.declared.Operand.{Operand}
@@ -12,40 +11,26 @@ use Rattle.rules.specs.declared.Pen.{Pen}
 use Rattle.rules.specs.declared.Point.{Point}
 use Rattle.rules.specs.declared.Role.the-variants.{Dropped}
 use Rattle.rules.specs.declared.Row.{Row}
-use Rattle.rules.specs.declared.Set.{Set}
 use Rattle.rules.specs.declared.Set.the-variants.{Pdi}
 use Rattle.rules.specs.declared.Text.{Text}
 use Rattle.rules.specs.Numbers.{roomForStep}
 use Rattle.rules.specs.Coding.{controls}
-use Rattle.rules.specs.Drawing.{other, rows, rowOf, roleOf, Outcome, NotDrawn, Draw, act}
+use Rattle.rules.specs.Drawing.{other, rows, rowOf, roleOf, Outcome, act}
 use Rattle.rules.specs.Text.{follow}
-use Rattle.rules.specs.Ranges.{domainFits}
 use Rattle.rules.proofs.DrawingRanges.{dropped-same}
 use Rattle.rules.proofs.OpcodeRows.{row-at}
 use Rattle.rules.proofs.Tables.{at}
-use Rattle.rules.proofs.Bools.{true-false, false-true, and-left, and-right, pick-yes, pick-no}
+use Rattle.rules.proofs.Bools.{true-false, pick-yes, pick-no}
 use Rattle.figures.specs.Carried.{Carried, carry, drawingOf}
 use Rattle.figures.specs.Tracing.{penAt, movedIf}
 use Rattle.figures.proofs.Carrying.{carry-none}
 use Rattle.drawing_runs.specs.declared.Passed.{Passed}
-use Rattle.drawing_runs.specs.Run.{ActsAs, Run, none, more, standing}
+use Rattle.drawing_runs.specs.Run.{ActsAs, Run, none, standing}
 use Rattle.drawing_runs.specs.Strokes.{rested, penAfter, PassesTo}
-use Rattle.command_runs.specs.Asked.{asked}
+use Rattle.command_steps.specs.Asked.{asked}
+use Rattle.command_steps.proofs.OpeningLaws.{run-step}
 use Rattle.drawing_runs.proofs.ActsLaws.{data-acts, control-acts, opcode-acts}
 use Rattle.drawing_runs.proofs.StrokeLaws.{after-moved}
-
--- A step more, its answer given
-pub run-step : {s : Set} {bytes : List ℕ} {from n : ℕ} {x y : Carried} (a : Action) (z : Carried) → Run s bytes from x n y
-    → ActsAs s (getD bytes (from + n) 0) a → y .at + roomForStep ≤ length (y .output) → z .refused ≡ false
-    → z ≡ carry (act a (y .drawing)) (y .drawing) (y .at) (y .output) → Run s bytes from x (n + 1) z
-unfolding carry
-run-step {s} {bytes} {from} {n} {x} {y} a z r acts room f e = by (act a (y .drawing)) refl
-  where
-    by : (o : Outcome) → act a (y .drawing) ≡ o → Run s bytes from x (n + 1) z
-    by (NotDrawn q) h = false-true (sym f ∙ ap (λ (c : Carried). c .refused) (e ∙ ap (λ (p : Outcome). carry p (y .drawing) (y .at) (y .output)) h))
-    by (Draw d rs) h =
-        subst (λ (j : ℕ). Run s bytes from x j z) (sym (add-one n))
-        (subst (Run s bytes from x (suc n)) (sym (e ∙ ap (λ (p : Outcome). carry p (y .drawing) (y .at) (y .output)) h)) (more r acts room h))
 
 -- The pen after so many bytes: no operand is begun, and it has room for eight bytes
 module _ (p₀ : Pen) where
@@ -183,11 +168,6 @@ unfolding rows
 row-next test k b d e h =
     let l : k < 32 = omega arith in
     at rows test k d other l ∙ ap (λ (j : ℕ). getD rows j other) e ∙ row-at b
-
--- With no command open, the row after a control is that of opcode 0
-pub row-control : (b : ℕ) → b < 32 → rowOf b ≡ rowOf 0
-unfolding rowOf
-row-control b h = rw (lt-ltb b 32 h)
 
 -- A recorded control asks for its record, an opcode to be opened
 pub control-asked : (b : ℕ) → b < 32 → getD controls b Ignored ≡ Recorded → ActsAs Pdi b (asked b)

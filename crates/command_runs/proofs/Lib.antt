@@ -1,4 +1,3 @@
+pub mod Prelude
 pub mod PointLaws
-pub mod OpeningLaws
 pub mod CommandLaws
-pub mod EffectorLaws

@@ -1,5 +1,5 @@
 -- Points that come whole, in a run.
-use Rattle.command_runs.specs.Prelude.{ℕ, suc, _+_, _-_, _≤_, arith, _≡_, refl, sym, ap, _∙_, subst, Bool, true, false, List, length, take, drop}
+use Rattle.command_runs.proofs.Prelude.{ℕ, suc, _+_, _-_, _≤_, arith, _≡_, refl, sym, ap, _∙_, subst, Bool, true, List, length, take, drop}
 use Rattle.rules.specs.declared.Command.{Command}
 use Rattle.rules.specs.declared.Domain.{Domain}
 use Rattle.rules.specs.declared.Drawing.{Drawing}
@@ -14,13 +14,11 @@ use Rattle.rules.specs.declared.Row.{Row}
 use Rattle.rules.specs.declared.Set.the-variants.{Pdi}
 use Rattle.rules.specs.declared.Text.{Text}
 use Rattle.rules.specs.Numbers.{roomForStep}
-use Rattle.rules.specs.Choice.{pick}
 use Rattle.rules.specs.Operands.{point}
 use Rattle.rules.specs.Text.{follow}
 use Rattle.rules.specs.Drawing.{rowOf, roleOf, dueAfter, lengthOf, withDue, Draw, apply, nextOperand}
-use Rattle.rules.proofs.Bools.{true-false, false-true}
-use Rattle.operands.specs.declared.whole.Whole.{Whole}
-use Rattle.operands.specs.declared.whole.Whole.the-variants.{Cut, Whole as Whole·point}
+use Rattle.rules.proofs.Bools.{false-true}
+use Rattle.operands.specs.declared.whole.Whole.the-variants.{Whole as Whole·point}
 use Rattle.operands.specs.Data.{allData, wholeOf}
 use Rattle.figures.specs.Carried.{Carried, Puts, drawingOf}
 use Rattle.figures.specs.Tracing.{penAt, isPoint}

@@ -1,12 +1,8 @@
 // A run of the PDI set: points that come whole, opcodes and recorded controls.
-pub mod effectors;
-pub mod opening;
-pub mod points;
-
-use crate::opening::open_next;
-use crate::points::point_due;
-use commands::data::role_due;
-use commands::data::with_due;
+use command_steps::opening::open_next;
+use command_steps::points::point_due;
+use data_bytes::role_due;
+use data_bytes::with_due;
 use drawing_runs::Passed;
 use drawing_runs::strokes::is_stroke;
 use figures::finishing::finishes_apart;
@@ -14,6 +10,9 @@ use figures::tracing::either;
 use figures::tracing::put_figure;
 use figures::tracing::target;
 use figures::tracing::trace;
+use opcodes::row_of;
+use opcodes::row_place;
+use opcodes::rows;
 use operands::whole::Whole;
 use operands::whole::are_data;
 use operands::whole::three_bytes;
@@ -24,12 +23,9 @@ use rules::Point;
 use rules::ROOM_FOR_STEP;
 use rules::Role;
 use tables::controls::is_recorded;
-use tables::opcodes::row_of;
-use tables::opcodes::row_place;
-use tables::opcodes::rows;
 ghost use mathlib.Core.Path.{_≡_};
 ghost use mathlib.Core.Bool.{true, false};
-ghost use Prim.Native.Nat.{ℕ, _+_, _≤_};
+ghost use Prim.Native.Nat.{_+_, _≤_};
 ghost use lib.ListN.{length};
 ghost use Rattle.rules.specs.declared.Operand.{Operand};
 ghost use Rattle.rules.specs.declared.Role.{Role};
@@ -38,7 +34,7 @@ ghost use Rattle.rules.specs.Ranges.{domainFits, commandFits};
 ghost use Rattle.figures.specs.Tracing.{finishesApart};
 ghost use Rattle.drawing_runs.specs.Run.{ActsAs};
 ghost use Rattle.drawing_runs.specs.Strokes.{PassesTo};
-ghost use Rattle.command_runs.specs.Asked.{asked};
+ghost use Rattle.command_steps.specs.Asked.{asked};
 
 // Whether four points of three bytes come at a place.
 fn is_long(bytes: &[u8], place: usize, to: usize) -> bool

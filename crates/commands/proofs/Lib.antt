@@ -1,4 +1,3 @@
 pub mod Prelude
-pub mod OperandLaws
 pub mod ClosingLaws
 pub mod ActionLaws

@@ -1,7 +1,7 @@
 // Closing: a begun operand is completed and applied, then the command finishes by the operand that is due.
-use crate::data::apply_begun;
-use crate::data::resting;
-use crate::data::role_due;
+use data_bytes::apply_begun;
+use data_bytes::resting;
+use data_bytes::role_due;
 use figures::Drawn;
 use figures::answers::moved_if;
 use figures::answers::no_record;
@@ -19,7 +19,7 @@ use rules::Pen;
 use rules::Point;
 use rules::Role;
 use rules::Row;
-use text::settings::close_text;
+use settings::close_text;
 ghost use mathlib.Core.Path.{_≡_};
 ghost use mathlib.Core.Bool.{Bool, true};
 ghost use mathlib.Core.List.{[]};

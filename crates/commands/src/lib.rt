@@ -1,4 +1,3 @@
-// Commands: their operands read, closed, opened.
+// Commands closed and opened.
 pub mod closing;
-pub mod data;
 pub mod opening;

@@ -1,12 +1,13 @@
 // The drawing layer: an action becomes records and a change of the drawing state, or a refusal.
 use commands::closing::close;
-use commands::data::data_byte;
 use commands::opening::open_at;
+use data_bytes::data_byte;
 use figures::Drawn;
 use figures::answers::no_record;
 use moves::characters::typed;
 use moves::movers::format;
-use moves::positions::placed;
+use opcodes::row_of;
+use positioning::placed;
 use records::character;
 use records::head_of;
 use records::mark;
@@ -21,9 +22,8 @@ use rules::Mode;
 use rules::ORIGIN;
 use rules::Pen;
 use rules::RECORD_SIZE;
-use tables::opcodes::row_of;
+use settings::reset_text;
 use text::cursor::with_text;
-use text::settings::reset_text;
 ghost use mathlib.Core.Path.{_≡_};
 ghost use mathlib.Core.Bool.{true};
 ghost use Prim.Native.Nat.{_+_, _≤_};

@@ -1,12 +1,12 @@
 -- Bytes that ask an action of drawing.
-use Rattle.drawing_runs.specs.Prelude.{ℕ, _≤_, _<_, arith, _≡_, refl, sym, ap, _∙_, Bool, true, false, List, getD, ltb, lt-ltb, le-ltb, ltb-true}
+use Rattle.drawing_runs.specs.Prelude.{ℕ, _≤_, _<_, arith, _≡_, sym, ap, _∙_, Bool, true, false, List, getD, ltb, lt-ltb, le-ltb}
 use Rattle.rules.specs.declared.Action.{Action}
 use Rattle.rules.specs.declared.Action.the-variants.{Control as Control·action, Format, Opcode, Data}
 use Rattle.rules.specs.declared.Class.{Class}
-use Rattle.rules.specs.declared.Class.the-variants.{Below, Column2, Above}
+use Rattle.rules.specs.declared.Class.the-variants.{Column2, Above}
 use Rattle.rules.specs.declared.Coding.{Coding}
 use Rattle.rules.specs.declared.Control.{Control}
-use Rattle.rules.specs.declared.Control.the-variants.{Ignored, Locks, Shifts, Escapes, Recorded, Formats, Positions}
+use Rattle.rules.specs.declared.Control.the-variants.{Ignored, Recorded, Formats}
 use Rattle.rules.specs.declared.Effector.{Effector}
 use Rattle.rules.specs.declared.Set.{Set}
 use Rattle.rules.specs.declared.Set.the-variants.{Pdi}
@@ -14,7 +14,7 @@ use Rattle.rules.specs.declared.Waiting.{Waiting}
 use Rattle.rules.specs.declared.Waiting.the-variants.{Nothing}
 use Rattle.rules.specs.Choice.{pick}
 use Rattle.rules.specs.Coding.{React, wait, setOf, controls, control, graphic, classOf, reactTo, react}
-use Rattle.rules.proofs.Bools.{pick-yes, pick-no, pick-all, true-false, false-true}
+use Rattle.rules.proofs.Bools.{pick-yes, pick-no}
 use Rattle.drawing_runs.specs.Run.{ActsAs}
 
 -- A byte up to 127 where nothing is waited for
@@ -70,34 +70,3 @@ pub format-acts : (s : Set) (f : Effector) (b : ℕ) → b < 32 → getD control
 unfolding control
 format-acts s f b h e =
     record { asks = λ c st w u. from-controls b (omega arith) c st w h ∙ ap (λ (x : Control). control x c st b) e }
-
--- Only a byte below 2/0 has the class of a control, the one at its place
-abbrev is-below : Class → Bool
-is-below (Below k) = true
-is-below Column2 = false
-is-below Above = false
-
-abbrev of-class : Class → Control
-of-class (Below k) = k
-of-class Column2 = Ignored
-of-class Above = Ignored
-
-pub below-control : (b : ℕ) (k : Control) → Below k ≡ classOf b → (b < 32) × (getD controls b Ignored ≡ k)
-unfolding classOf
-below-control b k e = by (ltb b 32) refl
-  where
-    by : (t : Bool) → ltb b 32 ≡ t → (b < 32) × (getD controls b Ignored ≡ k)
-    by true h = (ltb-true b 32 h, sym (ap of-class (e ∙ pick-yes _ _ h)))
-    by false h = true-false (ap is-below (e ∙ pick-no _ _ h) ∙ pick-all (λ (z : Class). is-below z ≡ false) (ltb b 48) refl refl)
-
-abbrev is-format : Control → Bool
-is-format Ignored = false
-is-format (Locks e) = false
-is-format (Shifts e) = false
-is-format Escapes = false
-is-format Recorded = false
-is-format (Formats f) = true
-is-format (Positions p) = false
-
-pub not-format : {A : Type 0} (f : Effector) → Ignored ≡ Formats f → A
-not-format f e = false-true (ap is-format e)

@@ -1,5 +1,5 @@
 -- Runs of POINT SET and LINE to points of three bytes in two dimensions.
-use Rattle.drawing_runs.specs.Prelude.{ℕ, zero, suc, _+_, _*_, _-_, _≤_, arith, _≡_, refl, sym, ap, _∙_, subst, Bool, true, false, not, _&&_, List, [], _∷_, _++_, length, take, drop, eqb}
+use Rattle.drawing_runs.specs.Prelude.{ℕ, zero, suc, _+_, _*_, _-_, _≤_, arith, _≡_, refl, sym, ap, _∙_, subst, Bool, true, false, not, List, [], _∷_, _++_, length, take, drop, eqb, _&&_}
 use Rattle.rules.specs.declared.Command.{Command}
 use Rattle.rules.specs.declared.Due.the-variants.{First}
 use Rattle.rules.specs.declared.Drawing.{Drawing}
@@ -23,7 +23,6 @@ use Rattle.records.proofs.Heads.{record-bytes}
 use Rattle.operands.specs.Data.{allData}
 use Rattle.operands.proofs.WholeLaws.{is-three}
 use Rattle.figures.specs.Carried.{Carried, carry, drawingOf}
-use Rattle.figures.specs.Tracing.{movedIf}
 use Rattle.figures.proofs.Carrying.{carry-none, carry-one}
 use Rattle.drawing_runs.specs.Run.{standing, Run, none}
 use Rattle.drawing_runs.specs.Strokes.{rested, penAfter, StrokeDue, Moves, Lines}

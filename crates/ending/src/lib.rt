@@ -1,7 +1,7 @@
 // The end of a page, once the tests of what is lent are passed.
 use bodies::bytes_left;
 use commands::closing::new_command;
-use commands::data::resting;
+use data_bytes::resting;
 use drawing::act;
 use rules::Action;
 use rules::Answer;

@@ -8,6 +8,6 @@ pub use native.Mathlib.Numerals.{add-one}
 pub use native.Mathlib.Omega.{arith}
 pub use lib.ListN.{length, set, length-append}
 pub use lib.Dec.{ltb, eqb}
-pub use borrow.Author.Tests.{lt-ltb, le-ltb, eq-eqb, ne-eqb, ltb-true, not-true, not-false}
+pub use borrow.Author.Tests.{lt-ltb, le-ltb, eq-eqb, ne-eqb, ltb-true}
 pub use borrow.Author.Needs.{needs}
 pub use denote.Ref.{now}

@@ -1,5 +1,5 @@
 -- The steps of the code that moves the cursor, put together to the rules
-use Rattle.moves.specs.Prelude.{List, [], _∷_, ℕ, _+_, _*_, _-_, _^_, _<_, _≤_, _≡_, refl, sym, ap, _∙_, Bool, true, false, arith, mul-le-mul, zero-mul}
+use Rattle.moves.specs.Prelude.{List, [], _∷_, ℕ, _≡_, refl, sym, ap, _∙_, Bool, true, false}
 use types.Run.{OneOf, miss}
 use denote.Enum.Declared.{tagOf}
 use Rattle.rules.proofs.Repertoire.{the-type as the-repertoire}
@@ -18,11 +18,11 @@ use Rattle.rules.specs.declared.Point.{Point}
 use Rattle.rules.specs.declared.Reach.{Reach}
 use Rattle.rules.specs.declared.Text.{Text}
 use Rattle.rules.specs.Text.{spaces, held, led, pointAt, withCursor, withPair, aligned}
-use Rattle.rules.specs.Numbers.{displayTop, freshWidth, freshHeight}
-use Rattle.rules.specs.Text.{magnitude, coordinateOf, positive, fieldFits, afterStride, entryEdge, rowStep, fieldBox}
+use Rattle.rules.specs.Numbers.{displayTop}
+use Rattle.rules.specs.Text.{coordinateOf, positive, fieldFits, afterStride, entryEdge, rowStep, fieldBox}
 use Rattle.rules.specs.Text.{spacingQuarters, interrowQuarters, opposite, rowDirection, alongX, forwards, onAxis}
 use Rattle.rules.specs.Text.{paired, setCursor, cursorAlong, reachAlong, setAlong, nextAlong, fitsNext, enter, rowIn, rowDown}
-use Rattle.rules.specs.Text.{rowUp, firstPosition, automaticPair, advance, apb, home, returnIn, feedIn, addressed, positioned}
+use Rattle.rules.specs.Text.{rowUp, firstPosition, automaticPair, advance, apb, home, returnIn, feedIn}
 use Rattle.rules.proofs.Bools.{pick-yes, pick-no}
 use Rattle.rules.proofs.TextLaws.{held-again, set-set}
 use Rattle.moves.specs.Advance.{putAlong, wrapped, Advances}
@@ -272,28 +272,6 @@ feed-null s o e = e
 pub feed-again : (s o : Pen) (p : Point) → o ≡ rowDown s → o ≡ feedIn (FeedSeen p) s
 unfolding feedIn
 feed-again s o p e = e
-
--- Rows and columns
-pub no-fields : (b n : ℕ) → b ≤ 32 → 0 ≡ (b - 32) * n
-no-fields b n h = sym (zero-mul n) ∙ ap (λ (z : ℕ). z * n) none
-  where
-    none : 0 ≡ b - 32
-    none = omega arith
-
-pub fields-fit : {b n : ℕ} → b < 2 ^ 8 → n < 2 ^ 32 → (b - 32) * n < 2 ^ 64
-fields-fit {b} {n} h k = omega (arith, mul-le-mul {n₁ = b - 32} {m₁ = n} {n₂ = 255} {m₂ = 2 ^ 32} (omega arith) (omega arith))
-
-pub addressed-of : (row column : ℕ) (s o : Pen) (w h x y : ℕ) → w ≡ magnitude (s .text .field .x) → h ≡ magnitude (s .text .field .y) → x ≡ (column - 32) * w → y ≡ (row - 32) * h → o ≡ setCursor (positive x) (positive y) s → o ≡ addressed row column s
-unfolding addressed
-addressed-of row column s o w h x y e f g k l =
-    let u = g ∙ ap (λ (z : ℕ). (column - 32) * z) e in
-    let v = k ∙ ap (λ (z : ℕ). (row - 32) * z) f in
-    l ∙ (λ i. setCursor (positive (u i)) (positive (v i)) s)
-
-pub positioned-of : (row column : ℕ) (s o : Pen) (x y : ℕ) → x ≡ column - 64 → y ≡ row - 64 → o ≡ setCursor (positive (x * freshWidth)) (record { ahead = displayTop; back = (y + 1) * freshHeight }) s → o ≡ positioned row column s
-unfolding positioned
-positioned-of row column s o x y e f l =
-    l ∙ (λ i. setCursor (positive (e i * freshWidth)) (record { ahead = displayTop; back = (f i + 1) * freshHeight }) s)
 
 -- Characters of the other sets all advance
 abbrev unaccented-sets : List ℕ

@@ -2,6 +2,4 @@
 pub use mathlib.Core.Path.{_≡_, refl, sym, ap, _∙_}
 pub use mathlib.Core.Bool.{Bool, true, false}
 pub use mathlib.Core.List.{List, [], _∷_}
-pub use Prim.Native.Nat.{ℕ, _+_, _*_, _-_, _^_, _<_, _≤_}
-pub use native.Mathlib.Nat.{mul-le-mul, zero-mul}
-pub use native.Mathlib.Omega.{arith}
+pub use Prim.Native.Nat.{ℕ}

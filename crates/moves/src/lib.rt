@@ -1,4 +1,3 @@
-// What moves the cursor: characters, format effectors, and places by row and column.
+// What moves the cursor: characters and format effectors.
 pub mod characters;
 pub mod movers;
-pub mod positions;

@@ -8,7 +8,7 @@ use Rattle.rules.specs.declared.Session.{Session}
 use Rattle.rules.specs.declared.Status.{Status}
 use Rattle.rules.specs.declared.Status.the-variants.{Running, Stopped}
 use Rattle.bodies.specs.Stack.{bodiesOf}
-use Rattle.coding.specs.View.{codingOf}
+use Rattle.reactions.specs.View.{codingOf}
 use Rattle.progress.specs.declared.Progress.{Progress}
 
 abbrev pub statusAfter : Answer → Status

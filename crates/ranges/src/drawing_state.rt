@@ -1,13 +1,13 @@
 // Which drawing states are in range.
-use commands::data::role_due;
+use data_bytes::role_due;
+use opcodes::length_of;
+use opcodes::row_of;
 use rules::Colour;
 use rules::Command;
 use rules::Domain;
 use rules::Look;
 use rules::MOST_VERTICES;
 use rules::Pen;
-use tables::opcodes::length_of;
-use tables::opcodes::row_of;
 ghost use mathlib.Core.Path.{_≡_};
 ghost use mathlib.Core.Bool.{_&&_};
 ghost use mathlib.Core.List.{List};

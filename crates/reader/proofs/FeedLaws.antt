@@ -1,5 +1,5 @@
 -- Feed, by the outcome of the tests; and of what is unread of a piece
-use Rattle.reader.specs.Prelude.{_≡_, refl, sym, ap, _∙_, subst, Bool, true, false, List, ℕ, _-_, min, arith, leb, length, take, drop, length-drop, drop-of-length-le, take-all, leb-true, leb-false}
+use Rattle.reader.specs.Prelude.{_≡_, sym, _∙_, subst, List, ℕ, _-_, min, length, take, drop}
 use Rattle.rules.specs.declared.Refusal.{Refusal}
 use Rattle.rules.specs.declared.Session.{Session}
 use Rattle.rules.specs.declared.Verdict.{Verdict}
@@ -8,6 +8,7 @@ use Rattle.rules.specs.declared.Answer.the-variants.{Refused}
 use Rattle.rules.specs.Reading.{Room, reading, tests, Valid}
 use Rattle.rules.specs.Step.{State, stateLent}
 use Rattle.rules.specs.Calls.{handed, feed, unread}
+use Rattle.queries.proofs.QueryLaws.{unread-part}
 use Rattle.rules.proofs.Steps.{tests-valid}
 use Rattle.rules.proofs.Readings.{reads-failed, reads-passed}
 use Rattle.rules.specs.declared.Fed.{Fed}
@@ -27,20 +28,7 @@ module _ (s : Session) (st piece out : List ℕ) (v : Verdict) (e : v ≡ tests 
   unfolding feed
   feed-passes h = rw (reads-passed (Room (length out)) (stateLent s st) piece (sym e ∙ h))
 
--- The part of a piece from where it is unread
-pub unread-part : (piece : List ℕ) (consumed from : ℕ) → from ≡ min consumed (length piece)
-    → take (length piece - from) (drop from piece) ≡ unread piece consumed
-unfolding unread
-unread-part piece consumed from e =
-    take-all (length piece - from) (drop from piece) (omega (arith, length-drop from piece)) ∙ by (leb consumed (length piece)) refl
-  where
-    by : (t : Bool) → leb consumed (length piece) ≡ t → drop from piece ≡ drop consumed piece
-    by true h = let k = leb-true consumed (length piece) h in let i : from ≡ consumed = omega arith in ap (λ (n : ℕ). drop n piece) i
-    by false h =
-        let k = leb-false consumed (length piece) h in
-        drop-of-length-le piece {i = from} (omega arith) ∙ sym (drop-of-length-le piece {i = consumed} (omega arith))
-
--- So a feed of that part is a feed of what is unread
+-- A feed of the part of a piece from where it is unread is a feed of what is unread
 pub fed-from : {w : State} (piece : List ℕ) {out left written : List ℕ} {r : Fed} (consumed from : ℕ) → from ≡ min consumed (length piece)
     → Feeds w (take (length piece - from) (drop from piece)) out r left written → Feeds w (unread piece consumed) out r left written
 fed-from {w = w} piece {out = out} {left = left} {written = written} {r = r} consumed from e f =

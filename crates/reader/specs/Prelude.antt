@@ -1,12 +1,9 @@
 -- What the files of this crate use of the libraries, under one name
 pub use mathlib.Core.Path.{_≡_, refl, sym, ap, _∙_, subst, ap₂}
-pub use mathlib.Core.Bool.{true, false, Bool}
 pub use mathlib.Core.List.{List, []}
 pub use Prim.Native.Nat.{ℕ, _≤_, _<_, _-_, min, _+_}
 pub use native.Mathlib.Omega.{arith}
-pub use lib.ListN.{length, take, drop, length-drop, drop-of-length-le}
-pub use lib.Seq.{take-all, drop-drop}
-pub use lib.Dec.{leb}
-pub use borrow.Author.Tests.{ne-eqb, leb-true, leb-false, eq-eqb, lt-leb, le-leb}
+pub use lib.ListN.{length, take, drop, length-drop}
+pub use lib.Seq.{drop-drop}
 pub use borrow.Author.Needs.{needs}
 pub use denote.Ref.{now}

@@ -1,5 +1,5 @@
 // Feed: the tests of what is lent, then a reading of the piece.
-use crate::unread::unread_from;
+use queries::unread::unread_from;
 use ranges::verdict;
 use reading::read;
 use rules::Answer;

@@ -24,19 +24,19 @@ use Rattle.pens.specs.declared.tips.Tip.{Tip}
 use Rattle.figures.specs.declared.Drawn.{Drawn}
 use Rattle.figures.specs.Carried.{carry, drawingOf, carriedOf}
 use Rattle.bodies.specs.Stack.{bodiesOf}
-use Rattle.turns.specs.declared.step.Course.the-variants.{GoesOn, Ends, Draws}
+use Rattle.steps.specs.declared.Course.the-variants.{GoesOn, Ends, Draws}
 use Rattle.progress.specs.declared.Progress.{Progress}
-use Rattle.turns.specs.declared.step.Turned.{Turned}
+use Rattle.steps.specs.declared.Turned.{Turned}
 use Rattle.rules.specs.declared.Fed.{Fed}
-use Rattle.turns.specs.Leaving.{Left, leaves}
+use Rattle.steps.specs.Leaving.{Left, leaves}
 use Rattle.progress.specs.declared.Reached.{Reached}
 use Rattle.progress.specs.Progress.{startOf, writtenTo, drawnTo}
-use Rattle.turns.specs.View.{stateAt, answered, leftOf, DrawDueBy, DrawDue, RoomBy, readOnIf, textIf}
+use Rattle.steps.specs.View.{stateAt, answered, leftOf, DrawDueBy, DrawDue, RoomBy, readOnIf, textIf}
 use Rattle.progress.specs.Handing.{sessionAfter}
 use Rattle.rules.specs.Promises.{handedOf}
 use Rattle.progress.specs.Handing.{fedOf}
 use Rattle.coded_turns.specs.Walk.{Stands, reachedAt}
-use Rattle.turns.proofs.StepLaws.{draw-refused, draw-goes}
+use Rattle.steps.proofs.StepLaws.{draw-refused, draw-goes}
 use Rattle.reading.proofs.Whole.{Kept, Next, kept-first, kept-next, wholeReading}
 
 -- The state once a reading has ended, as a session

@@ -11,9 +11,9 @@ use Rattle.rules.proofs.Readings.{reads-ends, reads-takes}
 use Rattle.rules.proofs.Turns.{turn-advances}
 use Rattle.records.specs.Bytes.{overwrite}
 use Rattle.records.proofs.Writes.{overwrite-length}
-use Rattle.turns.specs.declared.step.Course.{Course}
-use Rattle.turns.specs.declared.step.Course.the-variants.{GoesOn, Ends as Ends·course, Draws}
-use Rattle.turns.specs.Leaving.{Left, leaves}
+use Rattle.steps.specs.declared.Course.{Course}
+use Rattle.steps.specs.declared.Course.the-variants.{GoesOn, Ends as Ends·course, Draws}
+use Rattle.steps.specs.Leaving.{Left, leaves}
 use Rattle.coded_turns.specs.Walk.{placed, Stands, none, step}
 use Rattle.coded_turns.proofs.ProgressLaws.{walk-stands}
 

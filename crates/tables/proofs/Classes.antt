@@ -3,9 +3,10 @@ use Rattle.tables.proofs.Prelude.{ℕ, zero, suc, _+_, _-_, _<_, _≤_,
 use Rattle.rules.specs.declared.Class.{Class}
 use Rattle.rules.specs.declared.Class.the-variants.{Below, Column2, Above}
 use Rattle.rules.specs.declared.Control.{Control}
-use Rattle.rules.specs.declared.Control.the-variants.{Ignored, Recorded}
+use Rattle.rules.specs.declared.Control.the-variants.{Ignored, Locks, Shifts, Escapes, Recorded, Formats, Positions}
+use Rattle.rules.specs.declared.Effector.{Effector}
 use Rattle.rules.specs.Coding.{controls, classOf}
-use Rattle.rules.proofs.Bools.{true-false, by-test, pick-yes, pick-no, pick-all}
+use Rattle.rules.proofs.Bools.{true-false, false-true, by-test, pick-yes, pick-no, pick-all}
 
 module _ {A : Type 0} where
   getD-drop : (m : ℕ) (xs : List A) (i : ℕ) (d : A) → getD (drop m xs) i d ≡ getD xs (m + i) d
@@ -53,9 +54,21 @@ control-of (Below k) = k
 control-of Column2 = Ignored
 control-of Above = Ignored
 
-pub recorded : (b : ℕ) → Below Recorded ≡ classOf b → (b < 32) × (getD controls b Ignored ≡ Recorded)
+pub below-control : (b : ℕ) (k : Control) → Below k ≡ classOf b → (b < 32) × (getD controls b Ignored ≡ k)
 unfolding classOf
-recorded b e =
+below-control b k e =
     by-test (ltb b 32)
     (λ h. (ltb-true b 32 h, sym (ap control-of (e ∙ pick-yes _ _ h))))
-    (λ h. true-false (ap is-below (e ∙ pick-no _ _ h) ∙ pick-all (λ (k : Class). is-below k ≡ false) (ltb b 48) refl refl))
+    (λ h. true-false (ap is-below (e ∙ pick-no _ _ h) ∙ pick-all (λ (z : Class). is-below z ≡ false) (ltb b 48) refl refl))
+
+abbrev is-format : Control → Bool
+is-format Ignored = false
+is-format (Locks e) = false
+is-format (Shifts e) = false
+is-format Escapes = false
+is-format Recorded = false
+is-format (Formats f) = true
+is-format (Positions p) = false
+
+pub not-format : {A : Type 0} (f : Effector) → Ignored ≡ Formats f → A
+not-format f e = false-true (ap is-format e)

@@ -47,6 +47,18 @@ pub fn class_of(b: u8) -> Class
     }
 }
 
+// The control that a byte is; one from 2/0 on does nothing as such.
+pub fn control_of(b: u8) -> Control
+    ensures { λ r. ⌜ ((f : Effector) → r ≡ Control.Formats f → (b < 32) × (getD controls b Control.Ignored ≡ Control.Formats f)) ⌝ }
+{
+    let class = class_of(b);
+    match class {
+        Class::Below(control) => control,
+        Class::Column2 => Control::Ignored,
+        Class::Above => Control::Ignored,
+    }
+}
+
 // Whether a control is recorded.
 pub fn is_recorded(b: u8) -> bool
     ensures { λ r. ⌜ (r ≡ true → (b < 32) × (getD controls b Control.Ignored ≡ Control.Recorded)) ⌝ }

@@ -1,5 +1,4 @@
-// How bytes and opcodes are classified: constant tables, and choices by a number or an enum.
+// How bytes are classified: constant tables, and choices by a number or an enum.
 pub mod controls;
 pub mod escapes;
-pub mod opcodes;
 pub mod sets;

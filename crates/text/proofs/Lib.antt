@@ -1,2 +1,1 @@
 pub mod AxisLaws
-pub mod SettingLaws

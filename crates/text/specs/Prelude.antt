@@ -5,4 +5,4 @@ pub use Prim.Native.Nat.{ℕ, _+_, _*_, _-_, _/_, _^_, _<_, _≤_}
 pub use native.Mathlib.Nat.{mul-le-mul}
 pub use native.Mathlib.Omega.{arith}
 pub use lib.Dec.{leb}
-pub use borrow.Author.Tests.{lt-ltb, le-ltb, le-leb, lt-leb, eq-eqb, ne-eqb}
+pub use borrow.Author.Tests.{lt-ltb, le-ltb, le-leb, lt-leb}

@@ -1,5 +1,4 @@
-// Text: its settings and its field, the cursor, and the drawing point beside it.
+// Text: its field, the cursor, and the drawing point beside it.
 pub mod axis;
 pub mod cursor;
 pub mod field;
-pub mod settings;

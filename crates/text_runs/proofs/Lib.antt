@@ -1,2 +1,1 @@
-pub mod CharacterLaws
-pub mod SettingLaws
+pub mod Prelude

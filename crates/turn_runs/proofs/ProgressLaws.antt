@@ -18,7 +18,7 @@ use Rattle.store.specs.Stretch.{Gives}
 use Rattle.bodies.specs.Stack.{bodiesOf}
 use Rattle.figures.specs.Carried.{Carried, drawingOf}
 use Rattle.drawing_runs.specs.Run.{Run, standing, none as run-none, more as run-more}
-use Rattle.coding.specs.View.{codingOf}
+use Rattle.reactions.specs.View.{codingOf}
 use Rattle.progress.specs.declared.Progress.{Progress}
 use Rattle.progress.specs.declared.Reached.{Reached}
 use Rattle.progress.specs.Progress.{placeAfter, ranOn}

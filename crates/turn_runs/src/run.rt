@@ -5,7 +5,7 @@ use progress::Reached;
 use progress::with_progress;
 ghost use mathlib.Core.List.{List};
 ghost use Prim.Native.Nat.{ℕ, _-_, _≤_};
-ghost use Rattle.turns.specs.View.{NoneSpent};
+ghost use Rattle.steps.specs.View.{NoneSpent};
 ghost use Rattle.coded_turns.specs.Walk.{Walk, Stands, reachedAt};
 
 // Spent bodies are removed, then bytes that write no record are read, then bytes that are drawn, as many of each as come. A run may stop

@@ -1,2 +1,2 @@
-pub mod StepLaws
+pub mod Prelude
 pub mod TurnLaws

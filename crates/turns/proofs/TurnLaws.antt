@@ -1,5 +1,5 @@
 -- A turn by its parts: whether something is left, the byte that is next, and each way in which the turn comes out
-use Rattle.turns.specs.Prelude.{ℕ, zero, suc, _+_, _-_, _≤_, _<_, add-zero, add-one, sub-one, arith, _≡_, refl, sym, ap, _∙_, Bool, true, false, List, [], _∷_, length, drop, getD, drop-of-length-le, drop-cons, getD-drop, ltb, leb, lt-ltb, le-ltb, leb-true, leb-false}
+use Rattle.turns.proofs.Prelude.{ℕ, zero, suc, _+_, _-_, _≤_, _<_, add-zero, add-one, sub-one, arith, _≡_, refl, sym, ap, _∙_, Bool, true, false, List, [], _∷_, length, drop, getD, drop-of-length-le, drop-cons, getD-drop, ltb, leb, lt-ltb, le-ltb, leb-true, leb-false}
 use Rattle.rules.specs.declared.Answer.the-variants.{Done, Full, Refused}
 use Rattle.rules.specs.declared.Bodies.{Bodies}
 use Rattle.rules.specs.declared.Cursor.{Cursor}
@@ -14,11 +14,11 @@ use Rattle.rules.specs.Turn.{Turn, Ends, stopped, onMove, onSought, turn}
 use Rattle.rules.specs.Reading.{consumedBy}
 use Rattle.rules.proofs.Bools.{true-false, false-true}
 use Rattle.bodies.specs.Stack.{bodiesOf}
-use Rattle.turns.specs.declared.step.Course.the-variants.{Ends as Ends·course}
+use Rattle.steps.specs.declared.Course.the-variants.{Ends as Ends·course}
 use Rattle.progress.specs.declared.Progress.{Progress}
-use Rattle.turns.specs.declared.step.Turned.{Turned}
-use Rattle.turns.specs.Leaving.{nothingLeft, nextByte, sourceAt, advanced, interpreted, Left, leaves}
-use Rattle.turns.specs.View.{stateAt, leftOf, NoneSpent}
+use Rattle.steps.specs.declared.Turned.{Turned}
+use Rattle.steps.specs.Leaving.{nothingLeft, nextByte, sourceAt, advanced, interpreted, Left, leaves}
+use Rattle.steps.specs.View.{stateAt, leftOf, NoneSpent}
 
 -- Whether something is left: of a body, or of the piece
 

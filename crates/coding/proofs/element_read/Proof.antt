@@ -1,4 +1,4 @@
-use Rattle.coding.specs.View.{elementRead}
+use Rattle.coding.specs.SetRead.{elementRead}
 use Rattle.coding.proofs.ReactLaws.{others-use}
 use borrow.Author.Needs.{needs}
 use Rattle.coding.proofs.element_read.Statement.{statement}

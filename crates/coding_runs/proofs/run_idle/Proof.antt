@@ -2,7 +2,7 @@ use Rattle.coding_runs.specs.Prelude.{_≡_, sym, _∙_, _+_, _-_, _≤_
 use Rattle.store.specs.Each.{none}
 use Rattle.store.proofs.EachLaws.{each-on, each-join}
 use Rattle.coding_runs.specs.Idle.{Idle, coded}
-use Rattle.coding.specs.View.{codingOf}
+use Rattle.reactions.specs.View.{codingOf}
 use Rattle.coding_runs.proofs.IdleLaws.{idle-fits, idle-still, idle-reacts, busy-keeps}
 use Rattle.coding_runs.proofs.run_idle.Statement.{statement}
 use Rattle.coding_runs.proofs.run_idle.Tie as tie

@@ -1,4 +1,4 @@
-use Rattle.command_runs.specs.Prelude.{arith, needs}
+use Rattle.command_runs.proofs.Prelude.{arith, needs}
 use Rattle.rules.proofs.Bools.{false-true}
 use Rattle.command_runs.proofs.drops.Statement.{statement}
 use Rattle.command_runs.proofs.drops.Tie as tie

@@ -1,4 +1,4 @@
-use Rattle.command_runs.specs.Prelude.{sym, _∙_, ltb-true, needs}
+use Rattle.command_runs.proofs.Prelude.{sym, _∙_, ltb-true, needs}
 use Rattle.rules.proofs.Bools.{false-true}
 use Rattle.command_runs.proofs.CommandLaws.{control-asked, opcode-asked}
 use Rattle.command_runs.proofs.opens.Statement.{statement}

@@ -1,4 +1,4 @@
-use Rattle.command_runs.specs.Prelude.{needs, arith, _≡_, refl, sym, ap, _∙_, Bool, List, ℕ, _+_, _-_, _≤_, length, not-false}
+use Rattle.command_runs.proofs.Prelude.{needs, arith, _≡_, refl, sym, ap, _∙_, Bool, List, ℕ, _+_, _-_, _≤_, length, not-false}
 use Rattle.rules.specs.declared.Command.{Command}
 use Rattle.rules.specs.declared.Domain.{Domain}
 use Rattle.rules.specs.declared.Look.{Look}

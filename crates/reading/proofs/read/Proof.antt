@@ -3,7 +3,7 @@ use Rattle.pens.specs.Tips.{penOf}
 use Rattle.pens.specs.Words.{textFrom}
 use Rattle.figures.specs.Carried.{drawingOf}
 use Rattle.progress.specs.declared.Reached.{Reached}
-use Rattle.turns.specs.View.{stateAt}
+use Rattle.steps.specs.View.{stateAt}
 use Rattle.rules.proofs.Steps.{valid-store, valid-depth}
 use Rattle.coded_turns.proofs.ProgressLaws.{walk-steps}
 use Rattle.reading.proofs.ReadLaws.{loop-first, loop-on, loop-ends, loop-draws, loop-refused, hands-over, drawn-room, stands-any, fed-text, text-refused}

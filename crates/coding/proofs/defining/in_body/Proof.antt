@@ -1,7 +1,7 @@
 use Rattle.coding.specs.Prelude.{eq-eqb, ne-eqb, needs}
 use Rattle.rules.specs.declared.Waiting.the-variants.{Body}
 use Rattle.rules.specs.Coding.{inBody}
-use Rattle.coding.proofs.Answers.{unchanged}
+use Rattle.reactions.proofs.Answers.{unchanged}
 use Rattle.coding.proofs.DefinitionLaws.{kept}
 use Rattle.coding.proofs.defining.in_body.Statement.{statement}
 use Rattle.coding.proofs.defining.in_body.Tie as tie

@@ -1,6 +1,6 @@
 use Rattle.rules.specs.declared.Waiting.the-variants.{Body, BodyEscape}
 use Rattle.rules.specs.Coding.{inBodyEscape}
-use Rattle.coding.proofs.Answers.{unchanged}
+use Rattle.reactions.proofs.Answers.{unchanged}
 use Rattle.coding.proofs.DefinitionLaws.{kept}
 use borrow.Author.Needs.{needs}
 use Rattle.coding.proofs.defining.in_body_escape.Statement.{statement}

@@ -1,5 +1,5 @@
 use Rattle.rules.specs.Coding.{keep}
-use Rattle.coding.proofs.Answers.{kept-as-lent}
+use Rattle.reactions.proofs.Answers.{kept-as-lent}
 use borrow.Author.Needs.{needs}
 use Rattle.coding.proofs.defining.keep_escape.Statement.{statement}
 use Rattle.coding.proofs.defining.keep_escape.Tie as tie

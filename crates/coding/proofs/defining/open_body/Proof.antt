@@ -1,7 +1,7 @@
 use Rattle.coding.specs.Prelude.{refl, _∙_, now, needs}
 use Rattle.rules.specs.declared.Waiting.the-variants.{Name}
-use Rattle.coding.specs.View.{codingOf}
-use Rattle.coding.proofs.Answers.{kept-as-lent}
+use Rattle.reactions.specs.View.{codingOf}
+use Rattle.reactions.proofs.Answers.{kept-as-lent}
 use Rattle.coding.proofs.DefinitionLaws.{open-refused, open-freed, refused-kept}
 use Rattle.coding.proofs.defining.open_body.Statement.{statement}
 use Rattle.coding.proofs.defining.open_body.Tie as tie

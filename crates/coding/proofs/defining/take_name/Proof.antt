@@ -1,5 +1,5 @@
 use Rattle.coding.specs.Prelude.{_∙_, needs}
-use Rattle.coding.proofs.Answers.{unchanged}
+use Rattle.reactions.proofs.Answers.{unchanged}
 use Rattle.coding.proofs.DefinitionLaws.{name-below, name-above}
 use Rattle.coding.proofs.defining.take_name.Statement.{statement}
 use Rattle.coding.proofs.defining.take_name.Tie as tie

@@ -1,5 +1,5 @@
 use borrow.Author.Needs.{needs}
-use Rattle.text.proofs.SettingLaws.{code-0, code-1, code-2, code-3}
+use Rattle.settings.proofs.SettingLaws.{code-0, code-1, code-2, code-3}
 use Rattle.pens.proofs.words.pair_of.Statement.{statement}
 use Rattle.pens.proofs.words.pair_of.Tie as tie
 

@@ -1,4 +1,3 @@
-use Rattle.rules.specs.Text.{withCursor}
 use borrow.Author.Needs.{needs}
 use Rattle.text.proofs.cursor.cursor_led.Statement.{statement}
 use Rattle.text.proofs.cursor.cursor_led.Tie as tie

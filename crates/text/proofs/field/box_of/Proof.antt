@@ -1,5 +1,4 @@
 use Rattle.text.proofs.AxisLaws.{boxed}
-use Rattle.rules.specs.Text.{boxOf, turnedBox}
 use borrow.Author.Needs.{needs}
 use Rattle.text.proofs.field.box_of.Statement.{statement}
 use Rattle.text.proofs.field.box_of.Tie as tie

@@ -1,0 +1,2 @@
+// Sessions as they are opened, with their store.
+pub mod open;

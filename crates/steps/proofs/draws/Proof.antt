@@ -1,0 +1,29 @@
+use Rattle.steps.specs.Prelude.{ap, _∙_, needs}
+use Rattle.rules.specs.declared.Sets.{Sets}
+use Rattle.progress.specs.Progress.{stepsTo}
+use Rattle.reactions.specs.View.{setsAfter}
+use Rattle.steps.proofs.StepLaws.{draws-left, draws-due}
+use Rattle.steps.proofs.draws.Statement.{statement}
+use Rattle.steps.proofs.draws.Tie as tie
+
+sets-after-requires : tie.Need-sets-after-requires
+sets-after-requires c κs = search needs
+
+counted-requires : tie.Need-counted-requires
+counted-requires c κs =
+    let pre· = c .before .before .pre in
+    pre· .steps
+
+returns : tie.Need-returns
+returns c =
+    let args· = c .before .before .before .args in
+    let counted· = c .counted in
+    let pre· = c .before .before .before .pre in
+    let sets-after· = c .before .sets-after in
+    let counts = counted· .ensures ∙ ap (λ (s : Sets). stepsTo (args· .onward .at) (args· .progress .depth) s (args· .reacted .waiting) (args· .progress)) (sets-after· .ensures) in (
+      λ budget cells places firsts d st out. draws-left budget (args· .progress) cells places firsts d st out (args· .onward .cursor) (setsAfter (args· .reacted .effect) (args· .progress .sets)) (args· .reacted .waiting) (args· .action) (args· .onward .at) (counted· .result) counts,
+      draws-due (args· .action) (args· .progress) (setsAfter (args· .reacted .effect) (args· .progress .sets)) (args· .reacted .waiting) (args· .onward .at) (counted· .result) (pre·) counts,
+    )
+
+pub draws-spec : {M : Type 1} → statement M
+draws-spec = tie.close (tie.spec sets-after-requires counted-requires returns)
