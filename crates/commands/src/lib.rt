@@ -1,3 +1,4 @@
-// Commands closed and opened.
+// Commands closed and opened; the fresh look.
 pub mod closing;
+pub mod looks;
 pub mod opening;

@@ -1,5 +1,6 @@
 // The drawing layer: an action becomes records and a change of the drawing state, or a refusal.
 use commands::closing::close;
+use commands::looks::fresh_look;
 use commands::opening::open_at;
 use data_bytes::data_byte;
 use figures::Drawn;
@@ -14,12 +15,8 @@ use records::mark;
 use records::put_record;
 use records::set_number;
 use rules::Action;
-use rules::Colour;
 use rules::Command;
-use rules::Domain;
 use rules::Look;
-use rules::Mode;
-use rules::ORIGIN;
 use rules::Pen;
 use rules::RECORD_SIZE;
 use settings::reset_text;
@@ -39,22 +36,7 @@ fn reset_look(look: Look) -> Look
     ensures { λ r. ⌜ r ≡ resetLook look ⌝ }
 {
     let old = look.colour;
-    Look {
-        domain: Domain {
-            single: 1,
-            multi: 3,
-            three: false,
-            pel: ORIGIN,
-        },
-        colour: Colour {
-            mode: Mode::Direct,
-            green: 255,
-            red: 255,
-            blue: 255,
-            foreground: old.foreground,
-            background: old.background,
-        },
-    }
+    fresh_look(old.foreground, old.background)
 }
 
 // What an action does once the open command is closed: a control has a record of the drawing point and a character one of the

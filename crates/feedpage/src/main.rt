@@ -27,15 +27,16 @@ enum Next {
     Failed,
 }
 
-struct Turn {
+// The session that a piece leaves, and what follows it.
+struct Handover {
     session: Session,
     next: Next,
 }
 
-fn turn_to(session: Session, next: Next) -> Turn
+fn hand_on(session: Session, next: Next) -> Handover
     ensures { λ r. ⌜ r ≡ record { session = session; next = next } ⌝ }
 {
-    Turn { session, next }
+    Handover { session, next }
 }
 
 fn wide(byte: u8) -> u32
@@ -80,7 +81,7 @@ fn feed_piece(
     store: &mut [u8; STORE_SIZE],
     piece: &[u8],
     out: &mut [u8; 163840],
-) -> Turn
+) -> Handover
     ensures { λ r. ⌜ PieceRead Next.Read Next.End (stateLent session (now (store .entry))) (now (piece .entry))
         (r .next) (stateLent (r .session) (now (store .exit))) ⌝ }
 {
@@ -91,8 +92,8 @@ fn feed_piece(
         session = fed.session;
         let answer = fed.answer;
         match answer {
-            Answer::Done => return turn_to(session, Next::Read),
-            Answer::Refused(_) => return turn_to(session, Next::End),
+            Answer::Done => return hand_on(session, Next::Read),
+            Answer::Refused(_) => return hand_on(session, Next::End),
             Answer::Full => at += fed.consumed,
         }
     }
@@ -104,18 +105,18 @@ fn read_once(
     store: &mut [u8; STORE_SIZE],
     piece: &mut [u8],
     out: &mut [u8; 163840],
-) -> Turn
+) -> Handover
     ensures { λ r. ⌜ (r .next ≡ Next.Read →
         stepsLeft (stateLent (r .session) (now (store .exit))) < stepsLeft (stateLent session (now (store .entry)))) ⌝ }
 {
     let got = libc::read(STDIN_FILENO, piece);
     if got < 0 {
         os::fail(b"standard input");
-        return turn_to(session, Next::Failed);
+        return hand_on(session, Next::Failed);
     }
     let n = io::count(got, piece);
     if n == 0 {
-        return turn_to(session, Next::End);
+        return hand_on(session, Next::End);
     }
     feed_piece(session, store, &piece[..n], out)
 }
@@ -125,25 +126,25 @@ fn read_page(
     store: &mut [u8; STORE_SIZE],
     piece: &mut [u8],
     out: &mut [u8; 163840],
-) -> Turn {
+) -> Handover {
     let mut session = session;
     loop {
-        let turn = read_once(session, store, piece, out);
-        session = turn.session;
-        let next = turn.next;
+        let handover = read_once(session, store, piece, out);
+        session = handover.session;
+        let next = handover.next;
         let Next::Read = next else {
-            return turn;
+            return handover;
         };
     }
 }
 
 // Reads the page once more from its start.
-fn read_again(store: &mut [u8; STORE_SIZE], piece: &mut [u8], out: &mut [u8; 163840]) -> Turn {
+fn read_again(store: &mut [u8; STORE_SIZE], piece: &mut [u8], out: &mut [u8; 163840]) -> Handover {
     let opened = open(store, u32::MAX);
     let session = opened.session;
     if libc::lseek(STDIN_FILENO, 0, SEEK_SET) != 0 {
         os::fail(b"standard input");
-        return turn_to(session, Next::Failed);
+        return hand_on(session, Next::Failed);
     }
     read_page(session, store, piece, out)
 }
@@ -153,20 +154,20 @@ fn read_rounds(
     store: &mut [u8; STORE_SIZE],
     piece: &mut [u8],
     out: &mut [u8; 163840],
-) -> Turn {
+) -> Handover {
     let opened = open(store, u32::MAX);
-    let mut turn = read_page(opened.session, store, piece, out);
+    let mut handover = read_page(opened.session, store, piece, out);
     let mut left = rounds;
     while left > 1 {
-        let next = turn.next;
+        let next = handover.next;
         let Next::End = next else {
-            return turn;
+            return handover;
         };
-        end(turn.session, store, out);
-        turn = read_again(store, piece, out);
+        end(handover.session, store, out);
+        handover = read_again(store, piece, out);
         left -= 1;
     }
-    turn
+    handover
 }
 
 fn byte_at(out: &[u8; 163840], i: usize) -> u8 {
@@ -194,9 +195,9 @@ fn main() {
     let mut store = [0u8; STORE_SIZE];
     let mut piece = [0u8; 65536];
     let mut out = [0u8; 163840];
-    let turn = read_rounds(rounds_asked(), &mut store, &mut piece, &mut out);
-    let session = turn.session;
-    let next = turn.next;
+    let handover = read_rounds(rounds_asked(), &mut store, &mut piece, &mut out);
+    let session = handover.session;
+    let next = handover.next;
     if let Next::End = next {
         end_page(session, &store, &mut out);
     }

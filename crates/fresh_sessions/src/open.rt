@@ -1,52 +1,25 @@
 use commands::closing::new_command;
+use commands::looks::fresh_look;
 use rules::Answer;
 use rules::Bodies;
 use rules::Coding;
-use rules::Colour;
-use rules::Domain;
 use rules::Drawing;
-use rules::Element;
-use rules::Look;
-use rules::Mode;
 use rules::ORIGIN;
 use rules::Opened;
 use rules::Operand;
 use rules::Pen;
 use rules::Refusal;
-use rules::Repertoire;
 use rules::STORE_SIZE;
 use rules::Session;
-use rules::Set;
-use rules::Sets;
 use rules::Status;
 use rules::Waiting;
 use settings::fresh_text;
 use store::opening::initialise;
+use tables::sets::fresh_sets;
 ghost use mathlib.Core.Path.{_≡_};
 ghost use Rattle.rules.specs.Drawing.{freshDrawing};
 ghost use Rattle.rules.specs.Calls.{withBudget, freshSession};
 ghost use Rattle.rules.specs.Promises.{Opens};
-
-fn fresh_look() -> Look
-    ensures { λ r. ⌜ r ≡ freshDrawing .look ⌝ }
-{
-    Look {
-        domain: Domain {
-            single: 1,
-            multi: 3,
-            three: false,
-            pel: ORIGIN,
-        },
-        colour: Colour {
-            mode: Mode::Direct,
-            green: 255,
-            red: 255,
-            blue: 255,
-            foreground: 0,
-            background: 0,
-        },
-    }
-}
 
 fn fresh_drawing() -> Drawing
     ensures { λ r. ⌜ r ≡ freshDrawing ⌝ }
@@ -60,7 +33,7 @@ fn fresh_drawing() -> Drawing
         },
     };
     let command = new_command(0, ORIGIN);
-    let look = fresh_look();
+    let look = fresh_look(0, 0);
     Drawing {
         pen,
         command,
@@ -73,6 +46,7 @@ fn fresh_session(status: Status, budget: u32) -> Session
     ensures { λ r. ⌜ r ≡ freshSession status (withBudget budget) ⌝ }
 {
     let drawing = fresh_drawing();
+    let sets = fresh_sets();
     Session {
         budget,
         steps: 0,
@@ -83,13 +57,7 @@ fn fresh_session(status: Status, budget: u32) -> Session
             places: [0u8; 8],
         },
         coding: Coding {
-            sets: Sets {
-                g0: Set::Characters(Repertoire::Primary),
-                g1: Set::Pdi,
-                g2: Set::Characters(Repertoire::Supplementary),
-                g3: Set::Characters(Repertoire::Mosaic),
-                used: Element::G0,
-            },
+            sets,
             waiting: Waiting::Nothing,
             firsts: [0u8; 96],
         },

@@ -36,15 +36,16 @@ enum Next {
     Failed,
 }
 
-struct Turn {
+// The session that a piece leaves, and what follows it.
+struct Handover {
     session: Session,
     next: Next,
 }
 
-fn turn_to(session: Session, next: Next) -> Turn
+fn hand_on(session: Session, next: Next) -> Handover
     ensures { λ r. ⌜ r ≡ record { session = session; next = next } ⌝ }
 {
-    Turn { session, next }
+    Handover { session, next }
 }
 
 // Writes the first n bytes.
@@ -70,7 +71,7 @@ fn feed_piece(
     piece: &[u8],
     out: &mut [u8; OUTPUT_SIZE],
     text: &mut [u8; TEXT_SIZE],
-) -> Turn
+) -> Handover
     ensures { λ r. ⌜ ((r .next ≡ Next.Failed → ⊥) →
         PieceRead Next.Read Next.End (stateLent session (now (store .entry))) (now (piece .entry))
         (r .next) (stateLent (r .session) (now (store .exit)))) ⌝ }
@@ -81,12 +82,12 @@ fn feed_piece(
         let fed = feed_from(session, store, piece, at, out);
         session = fed.session;
         if !write_lines(out, fed.written, text) {
-            return turn_to(session, Next::Failed);
+            return hand_on(session, Next::Failed);
         }
         let answer = fed.answer;
         match answer {
-            Answer::Done => return turn_to(session, Next::Read),
-            Answer::Refused(_) => return turn_to(session, Next::End),
+            Answer::Done => return hand_on(session, Next::Read),
+            Answer::Refused(_) => return hand_on(session, Next::End),
             Answer::Full => at += fed.consumed,
         }
     }
@@ -99,18 +100,18 @@ fn read_once(
     piece: &mut [u8],
     out: &mut [u8; OUTPUT_SIZE],
     text: &mut [u8; TEXT_SIZE],
-) -> Turn
+) -> Handover
     ensures { λ r. ⌜ (r .next ≡ Next.Read →
         stepsLeft (stateLent (r .session) (now (store .exit))) < stepsLeft (stateLent session (now (store .entry)))) ⌝ }
 {
     let got = libc::read(STDIN_FILENO, piece);
     if got < 0 {
         os::fail(b"standard input");
-        return turn_to(session, Next::Failed);
+        return hand_on(session, Next::Failed);
     }
     let n = io::count(got, piece);
     if n == 0 {
-        return turn_to(session, Next::End);
+        return hand_on(session, Next::End);
     }
     feed_piece(session, store, &piece[..n], out, text)
 }
@@ -121,14 +122,14 @@ fn read_page(
     piece: &mut [u8],
     out: &mut [u8; OUTPUT_SIZE],
     text: &mut [u8; TEXT_SIZE],
-) -> Turn {
+) -> Handover {
     let mut session = session;
     loop {
-        let turn = read_once(session, store, piece, out, text);
-        session = turn.session;
-        let next = turn.next;
+        let handover = read_once(session, store, piece, out, text);
+        session = handover.session;
+        let next = handover.next;
         let Next::Read = next else {
-            return turn;
+            return handover;
         };
     }
 }
@@ -156,9 +157,9 @@ fn main() {
     let mut piece = [0u8; PIECE_SIZE];
     let mut out = [0u8; OUTPUT_SIZE];
     let mut text = [0u8; TEXT_SIZE];
-    let turn = read_page(session, &mut store, &mut piece, &mut out, &mut text);
-    let session = turn.session;
-    let next = turn.next;
+    let handover = read_page(session, &mut store, &mut piece, &mut out, &mut text);
+    let session = handover.session;
+    let next = handover.next;
     if let Next::End = next {
         end_page(session, &store, &mut out, &mut text);
     }

@@ -7,16 +7,16 @@ pub mod positions;
 use rules::Action;
 use rules::Element;
 use rules::Refusal;
-use rules::Repertoire;
 use rules::Set;
 use rules::Sets;
 use rules::Waiting;
 use tables::sets::designate;
+use tables::sets::fresh_sets;
 use tables::sets::in_use;
 ghost use mathlib.Core.List.{List};
 ghost use mathlib.Core.Path.{_≡_};
 ghost use Prim.Native.Nat.{ℕ};
-ghost use Rattle.rules.specs.Coding.{Refuse, Call, React, freshSets, inUse, designate};
+ghost use Rattle.rules.specs.Coding.{Refuse, Call, React, inUse, designate};
 ghost use Rattle.reactions.specs.View.{codingOf, resetSets, setsAfter, reactionOf, AsLent};
 
 // The last two say what changes of the sets and ask nothing of drawing. Of the others only the action of NSR changes them.
@@ -32,18 +32,6 @@ pub enum Effect {
 pub struct Reacted {
     pub effect: Effect,
     pub waiting: Waiting,
-}
-
-fn fresh_sets() -> Sets
-    ensures { λ r. ⌜ r ≡ freshSets ⌝ }
-{
-    Sets {
-        g0: Set::Characters(Repertoire::Primary),
-        g1: Set::Pdi,
-        g2: Set::Characters(Repertoire::Supplementary),
-        g3: Set::Characters(Repertoire::Mosaic),
-        used: Element::G0,
-    }
 }
 
 // NSR resets the sets too.

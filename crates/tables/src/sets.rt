@@ -6,7 +6,20 @@ use rules::Set;
 use rules::Sets;
 use rules::SingleShift;
 ghost use mathlib.Core.Path.{_≡_};
-ghost use Rattle.rules.specs.Coding.{setOf, inUse, designate, shiftedTo, character};
+ghost use Rattle.rules.specs.Coding.{freshSets, setOf, inUse, designate, shiftedTo, character};
+
+// The sets of a fresh session, and after NSR.
+pub fn fresh_sets() -> Sets
+    ensures { λ r. ⌜ r ≡ freshSets ⌝ }
+{
+    Sets {
+        g0: Set::Characters(Repertoire::Primary),
+        g1: Set::Pdi,
+        g2: Set::Characters(Repertoire::Supplementary),
+        g3: Set::Characters(Repertoire::Mosaic),
+        used: Element::G0,
+    }
+}
 
 pub fn set_of(e: Element, s: Sets) -> Set
     ensures { λ r. ⌜ r ≡ setOf e s ⌝ }

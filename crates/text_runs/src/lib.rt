@@ -38,7 +38,7 @@ ghost use Rattle.drawing_runs.specs.Run.{RunsTo};
 ghost use Rattle.line_runs.specs.Characters.{IsCharacter, Room, AtOnce, ClosesTo, penOf, Goes, Puts, TypedOn};
 
 // How many characters were put, and the pen after them; an operand that was begun before is still with it.
-struct Page {
+struct Typed {
     count: usize,
     pen: Pen,
 }
@@ -165,7 +165,7 @@ fn put_format(
     count: usize,
     out: &mut [u8],
     at: usize,
-) -> Page
+) -> Typed
     requires { ⌜ (from + count < length (now bytes)) × (at + (40 * count + roomForStep) ≤ length (now out)) ⌝ }
     ensures puts { λ r. ⌜ Puts common (now (bytes .entry)) from at count pen (now (out .entry)) (r .count) (r .pen) (now (out .exit)) ⌝ }
     ensures most { λ r. ⌜ (count ≤ r .count) × (r .count ≤ count + 1) ⌝ }
@@ -175,12 +175,12 @@ fn put_format(
     if let Control::Formats(effector) = control {
         let place = at + RECORD_SIZE * count;
         put_mark(common.ink, 7, code, pen.point, common.pel, out, place);
-        return Page {
+        return Typed {
             count: count + 1,
             pen: format(effector, pen),
         };
     }
-    Page { count, pen }
+    Typed { count, pen }
 }
 
 // Puts characters and format effectors, from a pen whose text went on alone.
@@ -193,7 +193,7 @@ fn put_text(
     most: usize,
     out: &mut [u8],
     at: usize,
-) -> Page
+) -> Typed
     requires { ⌜ (from + most ≤ length (now bytes)) × Room at most (now out) × (penOf (hand .moved) (hand .text) pen .text ≡ hand .text) ⌝ }
     ensures puts { λ r. ⌜ Puts common (now (bytes .entry)) from at 0 (penOf (hand .moved) (hand .text) pen) (now (out .entry))
         (r .count) (r .pen) (now (out .exit)) ⌝ }
@@ -206,7 +206,7 @@ fn put_text(
         let put = put_characters(common, hand, bytes, from, count, most, out, at);
         pen = pen_of(put.hand, pen);
         if put.count == most {
-            return Page {
+            return Typed {
                 count: put.count,
                 pen,
             };

@@ -23,30 +23,30 @@ feed-from-requires c κs = search needs
 enum-told : tie.Need-enum-told Inv-loop μ-loop
 enum-told c = search needs
 
-turn-to-requires : tie.Need-turn-to-requires Inv-loop μ-loop
-turn-to-requires c κs = search needs
+hand-on-requires : tie.Need-hand-on-requires Inv-loop μ-loop
+hand-on-requires c κs = search needs
 
 returns : tie.Need-returns Inv-loop μ-loop
 returns c =
-    let turn-to· = c .turn-to in
+    let hand-on· = c .hand-on in
     let loop· = c .before .before .before .before .before .before .before .loop in
     let feed-from· = c .before .before .before .before .feed-from in
     let enum-told· = c .before .enum-told in
-    rw (turn-to· .ensures) (piece-read (loop· .inv) (feed-from· .ensures) (rw (enum-told· .given .1) refl))
+    rw (hand-on· .ensures) (piece-read (loop· .inv) (feed-from· .ensures) (rw (enum-told· .given .1) refl))
 
 enum-told-2 : tie.Need-enum-told-2 Inv-loop μ-loop
 enum-told-2 c = search needs
 
-turn-to-requires-2 : tie.Need-turn-to-requires-2 Inv-loop μ-loop
-turn-to-requires-2 c κs = search needs
+hand-on-requires-2 : tie.Need-hand-on-requires-2 Inv-loop μ-loop
+hand-on-requires-2 c κs = search needs
 
 returns-2 : tie.Need-returns-2 Inv-loop μ-loop
 returns-2 c =
-    let turn-to2· = c .turn-to2 in
+    let hand-on2· = c .hand-on2 in
     let loop· = c .before .before .before .before .before .before .before .loop in
     let feed-from· = c .before .before .before .before .feed-from in
     let enum-told2· = c .before .enum-told2 in
-    rw (turn-to2· .ensures) (piece-read (loop· .inv) (feed-from· .ensures) (rw (enum-told2· .given .1) refl))
+    rw (hand-on2· .ensures) (piece-read (loop· .inv) (feed-from· .ensures) (rw (enum-told2· .given .1) refl))
 
 enum-told-3 : tie.Need-enum-told-3 Inv-loop μ-loop
 enum-told-3 c = search needs
@@ -81,10 +81,10 @@ feed-piece-spec =
     loop-holds
     feed-from-requires
     enum-told
-    turn-to-requires
+    hand-on-requires
     returns
     enum-told-2
-    turn-to-requires-2
+    hand-on-requires-2
     returns-2
     enum-told-3
     add-at

@@ -4,7 +4,7 @@ use Prim.Native.Nat.{ℕ}
 use mathlib.Core.Path.{_≡_, sym, ap, _∙_}
 use Rattle.reader.proofs.PieceLaws.{read-less}
 use Rattle.feedpage.specs.declared.Next.the-variants.{Read, End, Failed}
-use Rattle.feedpage.specs.declared.Turn.{Turn}
+use Rattle.feedpage.specs.declared.Handover.{Handover}
 use Rattle.feedpage.proofs.read_once.Statement.{statement}
 use Rattle.feedpage.proofs.read_once.Tie as tie
 
@@ -23,30 +23,30 @@ slice-aggregate-fail c = search needs
 fail-requires : tie.Need-fail-requires
 fail-requires c κs = search needs
 
-turn-to-requires : tie.Need-turn-to-requires
-turn-to-requires c κs = search needs
+hand-on-requires : tie.Need-hand-on-requires
+hand-on-requires c κs = search needs
 
 same-length : tie.Need-same-length
 same-length c = search needs
 
 returns : tie.Need-returns
 returns c =
-    let turn-to· = c .turn-to in
-    λ e. absurd (read-failed (sym e ∙ ap (λ (t : Turn). t .next) (turn-to· .ensures)))
+    let hand-on· = c .hand-on in
+    λ e. absurd (read-failed (sym e ∙ ap (λ (t : Handover). t .next) (hand-on· .ensures)))
 
 count-requires : tie.Need-count-requires
 count-requires c κs = search needs
 
-turn-to-requires-2 : tie.Need-turn-to-requires-2
-turn-to-requires-2 c κs = search needs
+hand-on-requires-2 : tie.Need-hand-on-requires-2
+hand-on-requires-2 c κs = search needs
 
 same-length-2 : tie.Need-same-length-2
 same-length-2 c = search needs
 
 returns-2 : tie.Need-returns-2
 returns-2 c =
-    let turn-to2· = c .turn-to2 in
-    λ e. absurd (read-end (sym e ∙ ap (λ (t : Turn). t .next) (turn-to2· .ensures)))
+    let hand-on2· = c .hand-on2 in
+    λ e. absurd (read-end (sym e ∙ ap (λ (t : Handover). t .next) (hand-on2· .ensures)))
 
 slice-reshare-prefix-feed-piece : tie.Need-slice-reshare-prefix-feed-piece
 slice-reshare-prefix-feed-piece c = search needs
@@ -74,11 +74,11 @@ read-once-spec =
     read-requires
     slice-aggregate-fail
     fail-requires
-    turn-to-requires
+    hand-on-requires
     same-length
     returns
     count-requires
-    turn-to-requires-2
+    hand-on-requires-2
     same-length-2
     returns-2
     slice-reshare-prefix-feed-piece

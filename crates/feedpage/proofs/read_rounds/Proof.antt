@@ -6,10 +6,10 @@ use Rattle.feedpage.proofs.read_rounds.Tie as tie
 
 -- The buffer keeps its length
 abbrev Inv-loop : tie.InvT-loop
-Inv-loop rounds store₀ piece₀ out₀ turn₀ left₀ store piece out turn left = length piece ≡ length piece₀
+Inv-loop rounds store₀ piece₀ out₀ handover₀ left₀ store piece out handover left = length piece ≡ length piece₀
 
 abbrev μ-loop : tie.MeasureT-loop
-μ-loop rounds store₀ piece₀ out₀ turn₀ left₀ store piece out turn left = left
+μ-loop rounds store₀ piece₀ out₀ handover₀ left₀ store piece out handover left = left
 
 open-requires : tie.Need-open-requires Inv-loop μ-loop
 open-requires c κs = search needs

@@ -4,7 +4,7 @@ use mathlib.Core.Path.{refl, ap}
 use Rattle.rules.specs.Reading.{stepsLeft}
 use Rattle.rules.specs.Step.{stateLent}
 use Rattle.reader.proofs.PieceLaws.{PieceUnread, piece-first, piece-within, piece-on, piece-less, piece-read}
-use Rattle.pagelist.specs.declared.Turn.{Turn}
+use Rattle.pagelist.specs.declared.Handover.{Handover}
 use Rattle.pagelist.proofs.feed_piece.Statement.{statement}
 use Rattle.pagelist.proofs.feed_piece.Tie as tie
 
@@ -25,41 +25,41 @@ feed-from-requires c κs = search needs
 write-lines-requires : tie.Need-write-lines-requires Inv-loop μ-loop
 write-lines-requires c κs = search needs
 
-turn-to-requires : tie.Need-turn-to-requires Inv-loop μ-loop
-turn-to-requires c κs = search needs
+hand-on-requires : tie.Need-hand-on-requires Inv-loop μ-loop
+hand-on-requires c κs = search needs
 
 returns : tie.Need-returns Inv-loop μ-loop
 returns c =
-    let turn-to· = c .turn-to in
-    λ f. absurd (f (ap (λ (t : Turn). t .next) (turn-to· .ensures)))
+    let hand-on· = c .hand-on in
+    λ f. absurd (f (ap (λ (t : Handover). t .next) (hand-on· .ensures)))
 
 enum-told : tie.Need-enum-told Inv-loop μ-loop
 enum-told c = search needs
 
-turn-to-requires-2 : tie.Need-turn-to-requires-2 Inv-loop μ-loop
-turn-to-requires-2 c κs = search needs
+hand-on-requires-2 : tie.Need-hand-on-requires-2 Inv-loop μ-loop
+hand-on-requires-2 c κs = search needs
 
 returns-2 : tie.Need-returns-2 Inv-loop μ-loop
 returns-2 c =
-    let turn-to2· = c .turn-to2 in
+    let hand-on2· = c .hand-on2 in
     let loop· = c .before .before .before .before .before .before .before .before .before .before .before .loop in
     let feed-from· = c .before .before .before .before .before .before .before .before .feed-from in
     let enum-told· = c .before .enum-told in
-    λ f. rw (turn-to2· .ensures) (piece-read (loop· .inv) (feed-from· .ensures) (rw (enum-told· .given .1) refl))
+    λ f. rw (hand-on2· .ensures) (piece-read (loop· .inv) (feed-from· .ensures) (rw (enum-told· .given .1) refl))
 
 enum-told-2 : tie.Need-enum-told-2 Inv-loop μ-loop
 enum-told-2 c = search needs
 
-turn-to-requires-3 : tie.Need-turn-to-requires-3 Inv-loop μ-loop
-turn-to-requires-3 c κs = search needs
+hand-on-requires-3 : tie.Need-hand-on-requires-3 Inv-loop μ-loop
+hand-on-requires-3 c κs = search needs
 
 returns-3 : tie.Need-returns-3 Inv-loop μ-loop
 returns-3 c =
-    let turn-to3· = c .turn-to3 in
+    let hand-on3· = c .hand-on3 in
     let loop· = c .before .before .before .before .before .before .before .before .before .before .before .loop in
     let feed-from· = c .before .before .before .before .before .before .before .before .feed-from in
     let enum-told2· = c .before .enum-told2 in
-    λ f. rw (turn-to3· .ensures) (piece-read (loop· .inv) (feed-from· .ensures) (rw (enum-told2· .given .1) refl))
+    λ f. rw (hand-on3· .ensures) (piece-read (loop· .inv) (feed-from· .ensures) (rw (enum-told2· .given .1) refl))
 
 enum-told-3 : tie.Need-enum-told-3 Inv-loop μ-loop
 enum-told-3 c = search needs
@@ -95,13 +95,13 @@ feed-piece-spec =
     loop-holds
     feed-from-requires
     write-lines-requires
-    turn-to-requires
+    hand-on-requires
     returns
     enum-told
-    turn-to-requires-2
+    hand-on-requires-2
     returns-2
     enum-told-2
-    turn-to-requires-3
+    hand-on-requires-3
     returns-3
     enum-told-3
     add-at
