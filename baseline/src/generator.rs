@@ -124,6 +124,7 @@ enum Item {
     LongPolygon,
     SelectColour,
     SetColour,
+    CutColour,
     Domain,
     StrayData,
     Characters,
@@ -167,7 +168,7 @@ const EVERYTHING: &[Item] = &[
     Polygon,
     SelectColour,
     SetColour,
-    SetColour,
+    CutColour,
     Domain,
     StrayData,
     Characters,
@@ -209,6 +210,8 @@ const DRAWING: &[Item] = &[
     Polygon,
     SelectColour,
     SetColour,
+    CutColour,
+    CutColour,
     Domain,
     StrayData,
     Text,
@@ -426,6 +429,7 @@ impl Generator {
             LongPolygon => self.long_polygon(),
             SelectColour => self.select_colour(),
             SetColour => self.set_colour(),
+            CutColour => self.cut_colour(),
             Domain => self.domain(),
             StrayData => self.stray_data(),
             Characters => self.characters(),
@@ -713,6 +717,27 @@ impl Generator {
         self.put(0x3C);
         let count = self.random.pick(&[0, 1, 1, 1, 2]);
         self.operands(count);
+    }
+
+    /// SET COLOUR under any length, in any mode, with data that end anywhere,
+    /// and something that closes it or shows its colour.
+    fn cut_colour(&mut self) {
+        if self.random.chance(50) {
+            self.domain();
+        }
+        if self.random.chance(60) {
+            self.select_colour();
+        }
+        self.use_pdi();
+        self.put(0x3C);
+        let length = self.random.range(0, self.multi + 2);
+        self.data(length);
+        match self.random.below(4) {
+            0 => self.control(),
+            1 => self.close_sequence(),
+            2 => self.characters(),
+            _ => self.command(),
+        }
     }
 
     fn stray_data(&mut self) {
@@ -1283,6 +1308,7 @@ impl Generator {
             Polygon,
             SelectColour,
             SetColour,
+            CutColour,
             Domain,
             StrayData,
             Characters,

@@ -72,15 +72,24 @@ impl Layout {
 }
 
 /// The bits of a SET COLOUR byte at `place` of its operand: G, R and B from
-/// the top of bytes 2, 1 and 0. Only the first four bytes reach them.
+/// the top of bytes 2, 1 and 0. The byte contains two three-tuples, each below
+/// those before. Only the first four bytes reach the eight bits of a colour.
 #[inline]
 pub fn colour_bits(byte: u8, place: u8) -> u64 {
     if place > 3 {
         return 0;
     }
-    let pair = |high: u8, low: u8| u64::from((byte >> high & 1) << 1 | (byte >> low & 1));
-    let spread = pair(5, 2) << 22 | pair(4, 1) << 14 | pair(3, 0) << 6;
-    spread >> (2 * place)
+    let first = tuple_bits(byte >> 3 & 7);
+    let second = tuple_bits(byte & 7);
+    (first | second >> 1) >> (2 * place)
+}
+
+/// A three-tuple has one bit of green, of red and of blue, in this order: each
+/// at the top of its colour.
+#[inline]
+fn tuple_bits(tuple: u8) -> u64 {
+    let [green, red, blue] = [tuple >> 2 & 1, tuple >> 1 & 1, tuple & 1].map(u64::from);
+    green << 23 | red << 15 | blue << 7
 }
 
 #[cfg(test)]

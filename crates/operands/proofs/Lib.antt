@@ -1,4 +1,3 @@
 pub mod Sums
-pub mod Bits
 pub mod Operands
 pub mod WholeLaws

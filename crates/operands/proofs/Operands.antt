@@ -1,10 +1,11 @@
 -- An operand's point byte by byte, and the parts of its bytes that addresses, colours and lengths are
-use Rattle.operands.specs.Prelude.{_≡_, refl, sym, _∙_, Bool, true, false, List, [], _∷_, _++_, append-nil, ℕ, zero, suc, _+_, _*_, _-_, _/_, _%_, _^_, _<_, add-zero, zero-mul, div-one, mod-eq-of-lt, add-one, arith, eqb, length, getD, take, drop, replicate, take-suc, length-take-le}
+use Rattle.operands.specs.Prelude.{_≡_, refl, sym, _∙_, Bool, true, false, List, [], _∷_, _++_, append-nil, ℕ, zero, suc, _+_, _*_, _-_, _/_, _%_, _^_, _<_, _≤_, pow-mono, ap, add-zero, div-one, mod-eq-of-lt, add-one, arith, eqb, length, getD, take, replicate, take-suc, length-take-le}
 use Rattle.rules.specs.declared.Point.{Point}
-use Rattle.rules.specs.Operands.{bit, xBits, yBits, greenBits, redBits, blueBits, bitsOf, fromTop, point, address, wrappedSum}
+use Rattle.rules.specs.Operands.{bit, xBits, yBits, green, red, blue, greenBits, redBits, blueBits, bitsOf, fromTop, point, address, wrappedSum}
 use Rattle.rules.specs.Drawing.{domainOf}
-use Rattle.operands.specs.Steps.{joined, pair, pairs}
-use Rattle.operands.proofs.Bits.{from-none, from-append, from-above, from-zeros, from-lt, from-more, all-bits, row, row-length, row-bits, row-zeros, from-row}
+use Rattle.operands.specs.declared.Hue.{Hue}
+use Rattle.operands.specs.Steps.{joined, withTuple, withTuples}
+use Rattle.rules.proofs.Bits.{from-none, from-next, from-append, from-above, from-zeros, from-lt, from-more, Bits, green-bits, red-bits, blue-bits, all-bits, row, row-length, row-bits, row-zeros, from-row}
 
 -- ---- points
 
@@ -86,34 +87,55 @@ domain-is b pel =
     let m : suc (fromTop 3 (row 3 2 b)) ≡ b / 4 % 8 + 1 = omega (arith, from-row 3 2 b) in
     λ i. record { single = s i; multi = m i; three = eqb (b / 32 % 2) 1; pel = pel }
 
--- Of the bytes read by g, the pairs of the first four
-abbrev firstPairs : (ℕ → ℕ) → List ℕ → ℕ
-firstPairs g bs = pairs (g (getD bs 0 0)) (g (getD bs 1 0)) (g (getD bs 2 0)) (g (getD bs 3 0))
+-- A colour: two bits of each byte, g and h of it
+module _ (g h : ℕ → ℕ) (no-g : g 0 ≡ 0) (no-h : h 0 ≡ 0) where
+  abbrev both : ℕ → List ℕ
+  both b = g b ∷ h b ∷ []
 
--- A colour: f gives two bits of each byte, which are b4 and b1 of g
-module _ (f : ℕ → List ℕ) (g : ℕ → ℕ) (wide : (b : ℕ) → length (f b) ≡ 2) (is : (b : ℕ) → fromTop 2 (f b) ≡ pair (g b)) (empty : pair (g 0) ≡ 0) where
-  from-byte : (j k : ℕ) (bs : List ℕ) → fromTop (2 + k) (bitsOf f (drop j bs)) ≡ pair (g (getD bs j 0)) * 2 ^ k + fromTop k (bitsOf f (drop (suc j) bs))
+  bits-at : (i : ℕ) (bs : List ℕ) → (getD (bitsOf both bs) (2 * i) 0 ≡ g (getD bs i 0)) × (getD (bitsOf both bs) (suc (2 * i)) 0 ≡ h (getD bs i 0))
   unfolding bitsOf
-  from-byte zero k [] = rw (empty, zero-mul, from-none k) (from-none (2 + k))
-  from-byte (suc j) k [] = rw (empty, zero-mul, from-none k) (from-none (2 + k))
-  from-byte (suc j) k (b ∷ bs) = from-byte j k bs
-  from-byte zero k (b ∷ bs) =
-      let e : 2 + k - length (f b) ≡ k = omega (arith, wide b) in
-      let h : fromTop (2 + k) (f b) ≡ pair (g b) * 2 ^ k = rw (wide b, is b) at (from-above k (f b)) in
-      rw (from-append (2 + k) (f b) (bitsOf f bs), e, h)
+  bits-at i [] = (sym no-g, sym no-h)
+  bits-at zero (b ∷ bs) = (refl, refl)
+  bits-at (suc i) (b ∷ bs) =
+      let e : 2 * suc i ≡ suc (suc (2 * i)) = omega arith in
+      rw e (bits-at i bs)
 
-  from-four : (bs : List ℕ) → fromTop 8 (bitsOf f bs) ≡ firstPairs g bs
-  unfolding fromTop
-  from-four bs = omega (arith, from-byte 0 6 bs, from-byte 1 4 bs, from-byte 2 2 bs, from-byte 3 0 bs)
+  value-next : (i : ℕ) (bs : List ℕ) → fromTop (2 * (i + 1)) (bitsOf both bs) ≡ (fromTop (2 * i) (bitsOf both bs) * 2 + g (getD bs i 0)) * 2 + h (getD bs i 0)
+  value-next i bs =
+      let e : 2 * (i + 1) ≡ suc (suc (2 * i)) = omega arith in
+      rw (e, from-next (suc (2 * i)) (bitsOf both bs), from-next (2 * i) (bitsOf both bs), bits-at i bs .0, bits-at i bs .1)
 
-pub green-is : (bs : List ℕ) → fromTop 8 (bitsOf greenBits bs) ≡ firstPairs (λ b. b / 4) bs
-unfolding greenBits bit fromTop
-green-is = from-four greenBits (λ b. b / 4) (λ b. refl) (λ b. omega arith) refl
+-- The hue of i bytes, those that never came being zero
+unfoldable pub hueAfter : ℕ → List ℕ → Hue
+hueAfter i bs =
+    record {
+      green = fromTop (2 * i) (bitsOf greenBits bs);
+      red = fromTop (2 * i) (bitsOf redBits bs);
+      blue = fromTop (2 * i) (bitsOf blueBits bs);
+    }
 
-pub red-is : (bs : List ℕ) → fromTop 8 (bitsOf redBits bs) ≡ firstPairs (λ b. b / 2) bs
-unfolding redBits bit fromTop
-red-is = from-four redBits (λ b. b / 2) (λ b. refl) (λ b. omega arith) refl
+pub hue-next : (i : ℕ) (bs : List ℕ) → hueAfter (i + 1) bs ≡ withTuples (getD bs i 0) (hueAfter i bs)
+unfolding hueAfter greenBits redBits blueBits
+hue-next i bs =
+    λ j. record {
+      green = value-next (λ b. green (b / 8 % 8)) (λ b. green (b % 8)) refl refl i bs j;
+      red = value-next (λ b. red (b / 8 % 8)) (λ b. red (b % 8)) refl refl i bs j;
+      blue = value-next (λ b. blue (b / 8 % 8)) (λ b. blue (b % 8)) refl refl i bs j;
+    }
 
-pub blue-is : (bs : List ℕ) → fromTop 8 (bitsOf blueBits bs) ≡ firstPairs (λ b. b) bs
-unfolding blueBits bit fromTop
-blue-is = from-four blueBits (λ b. b) (λ b. refl) (λ b. omega arith) refl
+-- What the code's eight bits hold
+
+module _ (t : ℕ) (h : Hue) (x : Hue) (e : x ≡ withTuple t h) where
+  pub tuple-most : h .green ≤ 63 → h .red ≤ 63 → h .blue ≤ 63 → (x .green ≤ 127) × (x .red ≤ 127) × (x .blue ≤ 127)
+  tuple-most g r b =
+      (omega (arith, ap (λ (z : Hue). z .green) e), omega (arith, ap (λ (z : Hue). z .red) e), omega (arith, ap (λ (z : Hue). z .blue) e))
+
+value-most : (f : ℕ → List ℕ) → ((b : ℕ) → Bits (f b)) → (i : ℕ) (bs : List ℕ) → i < 4 → fromTop (2 * i) (bitsOf f bs) ≤ 63
+value-most f bits i bs h =
+    let p : 2 ^ (2 * i) ≤ 2 ^ 6 = pow-mono {i = 2 * i} {j = 6} (omega arith) in
+    omega (arith, from-lt (2 * i) (all-bits f bits bs), p)
+
+pub hue-most : (i : ℕ) (bs : List ℕ) (x : Hue) → x ≡ hueAfter i bs → i < 4 → (x .green ≤ 63) × (x .red ≤ 63) × (x .blue ≤ 63)
+unfolding hueAfter
+hue-most i bs x e h =
+    rw e (value-most greenBits green-bits i bs h, value-most redBits red-bits i bs h, value-most blueBits blue-bits i bs h)

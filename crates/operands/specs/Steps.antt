@@ -1,7 +1,8 @@
--- An operand's point byte by byte, and the bits of a colour
+-- An operand's point byte by byte, and a colour three-tuple by three-tuple
 use Rattle.operands.specs.Prelude.{ℕ, _+_, _*_, _-_, _/_, _%_, Bool, true, false}
 use Rattle.rules.specs.declared.Point.{Point}
-use Rattle.rules.specs.Operands.{xBits, yBits, fromTop, wrappedSum}
+use Rattle.rules.specs.Operands.{xBits, yBits, green, red, blue, fromTop, wrappedSum}
+use Rattle.operands.specs.declared.Hue.{Hue}
 
 -- The bits of a coordinate that a byte has, in two dimensions and in three
 abbrev pub width : Bool → ℕ
@@ -16,10 +17,10 @@ joined three i b p =
       y = wrappedSum (p .y) (fromTop (32 - width three * i) (yBits three b));
     }
 
--- b4 and b1
-abbrev pub pair : ℕ → ℕ
-pair b = b / 8 % 2 * 2 + b % 2
+-- A three-tuple's bits, each below those of its colour gathered before
+abbrev pub withTuple : ℕ → Hue → Hue
+withTuple t h = record { green = h .green * 2 + green t; red = h .red * 2 + red t; blue = h .blue * 2 + blue t }
 
--- The pairs of four bytes, highest first
-abbrev pub pairs : ℕ → ℕ → ℕ → ℕ → ℕ
-pairs b0 b1 b2 b3 = pair b0 * 64 + (pair b1 * 16 + (pair b2 * 4 + pair b3))
+-- The two three-tuples of a byte
+abbrev pub withTuples : ℕ → Hue → Hue
+withTuples b h = withTuple (b % 8) (withTuple (b / 8 % 8) h)

@@ -6,7 +6,7 @@ ghost use Prim.Native.Nat.{_+_, _*_, _%_, _^_, _<_, _≤_};
 ghost use lib.ListN.{length, getD};
 ghost use Rattle.rules.specs.Operands.{greenBits, redBits, blueBits, bitsOf, fromTop, point, address, begun, wrappedSum, leavesRange, displaced, displacedOut};
 ghost use Rattle.rules.specs.Drawing.{domainOf};
-ghost use Rattle.operands.specs.Steps.{joined, pair, pairs};
+ghost use Rattle.operands.specs.Steps.{joined, withTuple, withTuples};
 use rules::Domain;
 use rules::Operand;
 use rules::Point;
@@ -130,32 +130,49 @@ pub fn address_of(o: Operand) -> u8
     byte_of(o, 0) / 4 % 16
 }
 
-// b4 and b1.
-fn pair(b: u8) -> u8
-    ensures { λ r. ⌜ (r ≡ pair b) × (r ≤ 3) ⌝ }
+// SET COLOUR, sentence by sentence as in Annex D, D.5.3.1.1.
+
+// "Each byte contains two three-tuples.": b6 b5 b4, then b3 b2 b1.
+fn gather_tuples(hue: Hue, byte: u8) -> Hue
+    requires { ⌜ (hue .green ≤ 63) × (hue .red ≤ 63) × (hue .blue ≤ 63) ⌝ }
+    ensures { λ r. ⌜ r ≡ withTuples byte hue ⌝ }
 {
-    b / 8 % 2 * 2 + b % 2
+    let hue = gather_tuple(hue, byte / 8 % 8);
+    gather_tuple(hue, byte % 8)
 }
 
-// The pairs of four bytes, highest first.
-fn pairs(b0: u8, b1: u8, b2: u8, b3: u8) -> u8
-    ensures { λ r. ⌜ r ≡ pairs b0 b1 b2 b3 ⌝ }
+// "Each three-tuple contains one bit for each of the three primary colours. These are specified in the order green, red, blue, which is
+// the order of decreasing luminance.": each bit stands below those of its colour gathered before.
+fn gather_tuple(hue: Hue, tuple: u8) -> Hue
+    requires { ⌜ (hue .green ≤ 127) × (hue .red ≤ 127) × (hue .blue ≤ 127) ⌝ }
+    ensures { λ r. ⌜ r ≡ withTuple tuple hue ⌝ }
 {
-    pair(b0) * 64 + (pair(b1) * 16 + (pair(b2) * 4 + pair(b3)))
+    Hue {
+        green: hue.green * 2 + tuple / 4 % 2,
+        red: hue.red * 2 + tuple / 2 % 2,
+        blue: hue.blue * 2 + tuple % 2,
+    }
 }
 
+// "A complete colour value for each primary consists of the concatenated bits, taken one from each three-tuple, starting with the
+// indicated MSB and proceeding, left to right, to the indicated LSB. The colour value thereby obtained represents a binary fraction in
+// which the MSB acts as the digit just to the right of the decimal point.": eight bits of it are kept, those of four bytes, and a byte
+// that has not come fills with zero.
 pub fn hue_of(o: Operand) -> Hue
     ensures { λ r. ⌜ (r .green ≡ fromTop 8 (bitsOf greenBits (begun o))) × (r .red ≡ fromTop 8 (bitsOf redBits (begun o)))
         × (r .blue ≡ fromTop 8 (bitsOf blueBits (begun o))) ⌝ }
 {
-    let b0 = byte_of(o, 0);
-    let b1 = byte_of(o, 1);
-    let b2 = byte_of(o, 2);
-    let b3 = byte_of(o, 3);
-    let green = pairs(b0 / 4, b1 / 4, b2 / 4, b3 / 4);
-    let red = pairs(b0 / 2, b1 / 2, b2 / 2, b3 / 2);
-    let blue = pairs(b0, b1, b2, b3);
-    Hue { green, red, blue }
+    let mut hue = Hue {
+        green: 0,
+        red: 0,
+        blue: 0,
+    };
+    let mut i: usize = 0;
+    while i < 4 {
+        hue = gather_tuples(hue, byte_of(o, i));
+        i += 1;
+    }
+    hue
 }
 
 pub fn domain_of(b: u8, pel: Point) -> Domain

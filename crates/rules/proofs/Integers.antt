@@ -1,6 +1,6 @@
 -- The coordinates of text as integers: one stands for ahead less back, and the rules say of it what they say of that integer
-use Rattle.rules.specs.Prelude.{ℕ, zero, suc, _+_, _-_, _^_, _<_, _≤_, _≡_, refl, sym, ap, _∙_, Bool, true, false, _&&_}
-use Rattle.rules.specs.Prelude.{arith, leb, ltb, leZ, lt-ltb, le-ltb, lt-leb, le-leb, ltb-true, ltb-false}
+use Rattle.rules.specs.Prelude.{ℕ, zero, suc, _+_, _-_, _^_, _<_, _≤_, _≡_, refl, sym, ap, _∙_, true, false, _&&_}
+use Rattle.rules.specs.Prelude.{arith, ltb, leZ, lt-ltb, le-ltb, lt-leb, le-leb, ltb-true, ltb-false}
 use Rattle.rules.specs.Prelude.{ℤ, pos, negsuc, negℤ, subℕ, _+ℤ_, _-ℤ_, +ℤ-assoc, +ℤ-comm, negℤ-+ℤ}
 use Rattle.rules.specs.Types.{Reach, Coordinate}
 use Rattle.rules.specs.Numbers.{screenSide}

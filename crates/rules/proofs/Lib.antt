@@ -3,12 +3,14 @@ pub mod Bools
 pub mod Spans
 pub mod Lists
 pub mod Tables
+pub mod Bits
 pub mod OpcodeRows
 pub mod TextLaws
 pub mod Integers
 pub mod WorkedText
 pub mod WorkedPages
 pub mod WorkedTextPages
+pub mod WorkedColours
 pub mod WorkedCalls
 pub mod DrawingRanges
 pub mod RecordCount
@@ -20,6 +22,8 @@ pub mod Turns
 pub mod Readings
 pub mod Cutting
 pub mod Places
+pub mod PdiReadings
+pub mod Colours
 pub mod Pending
 pub mod Simulation
 pub mod Expanding

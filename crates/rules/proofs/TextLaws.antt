@@ -1,7 +1,6 @@
 -- Laws of text: held places, absolute settings, there and back, the null pair
-use Rattle.rules.specs.Prelude.{ℕ, _+_, _*_, _-_, _/_, _%_, _^_, _<_, _≤_, _≡_, refl, sym, ap, _∙_, subst, Bool, true, false, not, _&&_}
-use Rattle.rules.specs.Prelude.{arith, leb, ltb, leb-true, leb-false, ltb-true, ltb-false, lt-ltb, le-leb}
-use Rattle.rules.specs.Choice.{pick}
+use Rattle.rules.specs.Prelude.{ℕ, _+_, _-_, _/_, _%_, _^_, _<_, _≤_, _≡_, refl, sym, ap, _∙_, subst, Bool, true, false, not, _&&_}
+use Rattle.rules.specs.Prelude.{arith, leb, ltb, leb-true, leb-false, ltb-true, ltb-false, lt-ltb}
 use Rattle.rules.specs.Types.{Point, Pen, Due, Rotation, Degrees0, Degrees90, Degrees180, Degrees270, Path, Right, Left, Up, Down}
 use Rattle.rules.specs.Types.{Moving, Together, CursorLeads, PointLeads, Independent, Style, Underscore, Block, CrossHair, Custom}
 use Rattle.rules.specs.Types.{Repertoire, Positioning, Aps, Nsr, Effector, Apb, Apf, Apd, Apu, Cs, Apr, Aph}

@@ -1,13 +1,15 @@
--- What is claimed of every page, cut, buffer and macro, proved in proofs/Cutting, Expanding and Demand3; and of the coordinates of every
--- record and of the cursor, proved in proofs/Places
-use Rattle.rules.specs.Prelude.{ℕ, _-_, _%_, _<_, _≡_, Bool, true, false, _||_, List, [], _∷_, _++_, take, eqb}
-use Rattle.rules.specs.Types.{Full, Point, Text, Record, Reach, Drawing, Aps, Nsr}
+-- What is claimed of every page, cut, buffer and macro, proved in proofs/Cutting, Expanding and Demand3; of the coordinates of every
+-- record and of the cursor, proved in proofs/Places; and of colours cut short, proved in proofs/Colours
+use Rattle.rules.specs.Prelude.{ℕ, _*_, _-_, _/_, _%_, _^_, _<_, _≤_, _≡_, Bool, true, false, _||_, List, [], _∷_, _++_, length, take, eqb}
+use Rattle.rules.specs.Types.{Done, Full, Pdi, Close, Point, Text, Record, Reach, Drawing, Aps, Nsr}
 use Rattle.rules.specs.Types.{Waiting, Nothing, Shifted, Escape, Designator, Longer, Name, Body, BodyEscape, Row·waiting as Row, Column}
 use Rattle.rules.specs.Numbers.{screenSide}
 use Rattle.rules.specs.Record.{bytesOfAll}
 use Rattle.rules.specs.Text.{positive, fieldFits, fieldBox}
-use Rattle.rules.specs.Step.{State}
-use Rattle.rules.specs.Reading.{Limit, Steps, readTo, undivided, Waits}
+use Rattle.rules.specs.Coding.{setOf}
+use Rattle.rules.specs.Drawing.{Draw, shadeTo, closed, act}
+use Rattle.rules.specs.Step.{State, removeSpent}
+use Rattle.rules.specs.Reading.{Reading, Limit, Steps, readTo, undivided, Waits}
 use Rattle.rules.specs.Calls.{Terms, freshState, end, Lent, feeds, lentBytes}
 use Rattle.rules.specs.Expansion.{expansion, endPage, Accepted, allRecords, SameState, SamePage}
 
@@ -113,3 +115,54 @@ pub record HoldsCursor (terms : Terms) : Type 0 where
   pub accepted : (page : List ℕ) → Accepted terms page → FieldFits (endPage terms page .state .session .drawing .pen .text)
   pub fed : (c : Lent) (cs : List Lent) → CursorHeldIn (feeds (freshState terms) [] c cs .state)
   pub closed : (c : Lent) (cs : List Lent) (out : List ℕ) → CursorHeldIn (end (feeds (freshState terms) [] c cs .state) out .state)
+
+-- Colours cut short
+
+-- The next bytes of the page are read in PDI: it is in use, nothing is waited for, and no body has a byte left
+pub record ReadsPdi (w : State) : Type 0 where
+  pub pdi : setOf (w .session .coding .sets .used) (w .session .coding .sets) ≡ Pdi
+  pub nothing : w .session .coding .waiting ≡ Nothing
+  pub noBody : removeSpent w .session .bodies .depth ≡ 0
+
+-- ".. 4/0 to 7/15 is data, .."
+abbrev pub AllData : List ℕ → Type 0
+AllData [] = Unit {0}
+AllData (b ∷ bs) = (64 ≤ b) × (b ≤ 127) × AllData bs
+
+-- SET COLOUR 3/12, and then data
+abbrev pub setColour : State → List ℕ → Reading
+setColour w bs = undivided w (60 ∷ bs)
+
+abbrev pub drawingLeft : Reading → Drawing
+drawingLeft x = x .state .session .drawing
+
+-- Read from w, SET COLOUR with the data bs gives the colour g, r, b: once it is opened, d, `shadeTo` is what it does by its mode, which
+-- in mode 0 sets the colour, in modes 1 and 2 writes the map at the foreground and the record of kind 8. Data that complete the operand
+-- have done so by their end. When the command is closed it is done in any case: all that closes a command does `Close` before it acts
+pub record GivesColour (w : State) (bs : List ℕ) (g r b : ℕ) : Type 0 where
+  pub accepted : setColour w bs .answer ≡ Done
+  pub shaded : Drawing
+  pub written : List Record
+  pub given : let d = drawingLeft (setColour w []) in shadeTo (d .look .colour .mode) g r b d ≡ Draw shaded written
+  pub completed : drawingLeft (setColour w []) .look .domain .multi ≤ length bs
+      → (drawingLeft (setColour w bs) .look ≡ shaded .look) × (drawingLeft (setColour w bs) .map ≡ shaded .map)
+      × (setColour w bs .records ≡ setColour w [] .records ++ bytesOfAll written)
+  pub closing : List Record
+  pub closes : act Close (drawingLeft (setColour w bs)) ≡ Draw (closed shaded) closing
+  pub all : setColour w bs .records ++ bytesOfAll closing ≡ setColour w [] .records ++ bytesOfAll written
+
+-- ".. the first 2k of the whole one's eight bits, the rest zero."
+abbrev pub lostBits : ℕ → ℕ
+lostBits k = 8 - 2 * k
+
+abbrev pub cutAfter : ℕ → ℕ → ℕ
+cutAfter k v = v / 2 ^ lostBits k * 2 ^ lostBits k
+
+-- 02, 3/13: "SET COLOUR data cut after k bytes, k at least 1, gives each colour the first 2k of the whole one's eight bits, the rest
+-- zero."
+pub record CutColour (w : State) (bs : List ℕ) (k : ℕ) : Type 0 where
+  pub green : ℕ
+  pub red : ℕ
+  pub blue : ℕ
+  pub whole : GivesColour w bs green red blue
+  pub cut : GivesColour w (take k bs) (cutAfter k green) (cutAfter k red) (cutAfter k blue)

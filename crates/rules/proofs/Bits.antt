@@ -1,12 +1,22 @@
 -- The number that `fromTop` makes of bits, and the bits that bytes give
-use Rattle.operands.specs.Prelude.{_≡_, refl, sym, ap, _∙_, List, [], _∷_, _++_, append-assoc, ℕ, zero, suc, _+_, _*_, _-_, _/_, _%_, _^_, _≤_, _<_, zero-add, add-assoc, zero-sub, sub-zero, suc-sub-suc, suc-add, zero-mul, mul-zero, mul-assoc, add-mul, mod-lt, mod-one, zero-div, mul-le-mul-right, arith, length, length-append, replicate, pow-add, pow-pos, mod-pow-add, shr-shr}
-use Rattle.rules.specs.Operands.{bit, bitsOf, fromTop}
+use Rattle.rules.specs.Prelude.{_≡_, refl, sym, ap, _∙_, List, [], _∷_, _++_, map, append-assoc, ℕ, zero, suc, _+_, _*_, _-_, _/_, _%_, _^_, _≤_, _<_, zero-add, add-assoc, zero-sub, sub-zero, suc-sub-suc, suc-add, zero-mul, mul-zero, mul-assoc, add-mul, mod-lt, mod-one, zero-div, mul-le-mul-right, arith, getD, take, take-nil, take-append-add, div-eq-of-lt, mul-add-div-right, length, length-append, replicate, pow-suc, pow-add, pow-pos, mod-pow-add, shr-shr}
+use Rattle.rules.specs.Operands.{bit, threeTuples, green, red, blue, greenBits, redBits, blueBits, bitsOf, fromTop}
 
 -- No bits
 pub from-none : (n : ℕ) → fromTop n [] ≡ 0
 unfolding fromTop
 from-none zero = refl
 from-none (suc n) = refl
+
+-- One more bit stands below the others
+pub from-next : (n : ℕ) (xs : List ℕ) → fromTop (suc n) xs ≡ fromTop n xs * 2 + getD xs n 0
+unfolding fromTop
+from-next zero [] = refl
+from-next zero (x ∷ xs) = omega arith
+from-next (suc n) [] = refl
+from-next (suc n) (x ∷ xs) =
+    let e : x * 2 ^ suc n ≡ x * 2 ^ n * 2 = ap (λ (m : ℕ). x * m) (pow-suc 2 n) ∙ sym (mul-assoc x (2 ^ n) 2) in
+    omega (arith, from-next n xs, e)
 
 -- Bits after others stand as much lower
 pub from-append : (n : ℕ) (xs ys : List ℕ) → fromTop n (xs ++ ys) ≡ fromTop n xs + fromTop (n - length xs) ys
@@ -45,6 +55,20 @@ from-lt (suc n) (more {x} {xs} h t) =
     let m : x * 2 ^ n ≤ 1 * 2 ^ n = mul-le-mul-right (2 ^ n) (omega arith) in
     omega arith
 
+-- The number without its bits after the first m
+pub from-take : (n m : ℕ) {xs : List ℕ} → Bits xs → fromTop n (take m xs) ≡ fromTop n xs / 2 ^ (n - m) * 2 ^ (n - m)
+unfolding fromTop
+from-take zero m {xs} h = sym (rw (zero-div (2 ^ (0 - m))) (zero-mul (2 ^ (0 - m))))
+from-take (suc n) zero {xs} h =
+    sym (rw (sub-zero, div-eq-of-lt (from-lt (suc n) h)) (zero-mul (2 ^ suc n)))
+from-take (suc n) (suc m) none = sym (rw (zero-div (2 ^ (suc n - suc m))) (zero-mul (2 ^ (suc n - suc m))))
+from-take (suc n) (suc m) (more {x} {xs} h t) =
+    let p = 2 ^ (n - m) in
+    let q = 2 ^ (n - (n - m)) in
+    let e : 2 ^ n ≡ q * p = ap (λ (k : ℕ). 2 ^ k) (omega arith) ∙ pow-add 2 (n - (n - m)) (n - m) in
+    let f : x * 2 ^ n ≡ x * q * p = ap (λ (k : ℕ). x * k) e ∙ sym (mul-assoc x q p) in
+    rw (suc-sub-suc, from-take n m t, f, mul-add-div-right (pow-pos (n - m)) (x * q) (fromTop n xs)) (sym (add-mul (x * q) (fromTop n xs / p) p))
+
 -- ---- the bits of bytes, each giving w of them by f
 
 bits-append : (f : ℕ → List ℕ) (bs cs : List ℕ) → bitsOf f (bs ++ cs) ≡ bitsOf f bs ++ bitsOf f cs
@@ -57,6 +81,15 @@ module _ (f : ℕ → List ℕ) (w : ℕ) (wide : (b : ℕ) → length (f b) ≡
   unfolding bitsOf
   bits-length [] = sym (mul-zero w)
   bits-length (b ∷ bs) = omega (arith, length-append (f b) (bitsOf f bs), wide b, bits-length bs)
+
+  -- The bits of the first bytes come first
+  pub bits-take : (k : ℕ) (bs : List ℕ) → bitsOf f (take k bs) ≡ take (w * k) (bitsOf f bs)
+  unfolding bitsOf
+  bits-take zero bs = rw (mul-zero w)
+  bits-take (suc k) [] = sym (take-nil (w * suc k))
+  bits-take (suc k) (b ∷ bs) =
+      let e : w * suc k ≡ length (f b) + w * k = omega (arith, wide b) in
+      rw (e, bits-take k bs) (sym (take-append-add (f b) (bitsOf f bs) (w * k)))
 
   -- More bytes: their bits stand below those of the bytes before
   pub from-more : (n : ℕ) (bs cs : List ℕ) → fromTop n (bitsOf f (bs ++ cs)) ≡ fromTop n (bitsOf f bs) + fromTop (n - w * length bs) (bitsOf f cs)
@@ -71,6 +104,24 @@ pub all-bits : (f : ℕ → List ℕ) → ((b : ℕ) → Bits (f b)) → (bs : L
 unfolding bitsOf
 all-bits f h [] = none
 all-bits f h (b ∷ bs) = both-bits (h b) (all-bits f h bs)
+
+-- One bit of each of a byte's three-tuples
+module _ (f : ℕ → ℕ) (bit-of : (t : ℕ) → f t < 2) where
+  taken-bits : (ts : List ℕ) → Bits (map f ts)
+  taken-bits [] = none
+  taken-bits (t ∷ ts) = more (bit-of t) (taken-bits ts)
+
+pub green-bits : (b : ℕ) → Bits (greenBits b)
+unfolding greenBits
+green-bits b = taken-bits green (λ t. omega arith) (threeTuples b)
+
+pub red-bits : (b : ℕ) → Bits (redBits b)
+unfolding redBits
+red-bits b = taken-bits red (λ t. omega arith) (threeTuples b)
+
+pub blue-bits : (b : ℕ) → Bits (blueBits b)
+unfolding blueBits
+blue-bits b = taken-bits blue (λ t. omega arith) (threeTuples b)
 
 -- ---- bits that stand in a row
 
