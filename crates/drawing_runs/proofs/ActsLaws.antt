@@ -1,48 +1,17 @@
 -- Bytes that ask an action of drawing.
-use Rattle.drawing_runs.specs.Prelude.{ℕ, _≤_, _<_, arith, _≡_, sym, ap, _∙_, Bool, true, false, List, getD, ltb, lt-ltb, le-ltb}
+use Rattle.drawing_runs.specs.Prelude.{ℕ, _≤_, _<_, arith, _≡_, ap, _∙_, List, getD, lt-ltb, le-ltb}
 use Rattle.rules.specs.declared.Action.{Action}
 use Rattle.rules.specs.declared.Action.the-variants.{Control as Control·action, Format, Opcode, Data}
-use Rattle.rules.specs.declared.Class.{Class}
-use Rattle.rules.specs.declared.Class.the-variants.{Column2, Above}
 use Rattle.rules.specs.declared.Coding.{Coding}
 use Rattle.rules.specs.declared.Control.{Control}
 use Rattle.rules.specs.declared.Control.the-variants.{Ignored, Recorded, Formats}
 use Rattle.rules.specs.declared.Effector.{Effector}
 use Rattle.rules.specs.declared.Set.{Set}
 use Rattle.rules.specs.declared.Set.the-variants.{Pdi}
-use Rattle.rules.specs.declared.Waiting.{Waiting}
-use Rattle.rules.specs.declared.Waiting.the-variants.{Nothing}
-use Rattle.rules.specs.Choice.{pick}
-use Rattle.rules.specs.Coding.{React, wait, setOf, controls, control, graphic, classOf, reactTo, react}
+use Rattle.rules.specs.Coding.{React, controls, control, graphic}
 use Rattle.rules.proofs.Bools.{pick-yes, pick-no}
+use Rattle.rules.proofs.Reacting.{from-set, from-controls}
 use Rattle.drawing_runs.specs.Run.{ActsAs}
-
--- A byte up to 127 where nothing is waited for
-module _ (b : ℕ) (most : b ≤ 127) (c : Coding) (st : List ℕ) (w : c .waiting ≡ Nothing) where
-  resting : wait Nothing c ≡ c
-  resting =
-      let e = sym w in
-      λ i. record { sets = c .sets; waiting = e i; firsts = c .firsts }
-
-  by-class : {k : Class} → classOf b ≡ k → react c st b ≡ reactTo Nothing k c st b
-  unfolding react
-  by-class e =
-      pick-no _ _ (le-ltb 127 b most)
-      ∙ ap (λ (x : Waiting). reactTo x (classOf b) c st b) w
-      ∙ ap (λ (k : Class). reactTo Nothing k c st b) e
-
-  from-set : 32 ≤ b → react c st b ≡ graphic (setOf (c .sets .used) (c .sets)) c st b
-  unfolding classOf reactTo
-  from-set least = by-class (pick-no _ _ (le-ltb b 32 least)) ∙ by (ltb b 48)
-    where
-      by : (t : Bool) → reactTo Nothing (pick t Column2 Above) c st b ≡ graphic (setOf (c .sets .used) (c .sets)) c st b
-      by true = ap (λ (x : Coding). graphic (setOf (c .sets .used) (c .sets)) x st b) resting
-      by false = ap (λ (x : Coding). graphic (setOf (c .sets .used) (c .sets)) x st b) resting
-
-  from-controls : b < 32 → react c st b ≡ control (getD controls b Ignored) c st b
-  unfolding classOf reactTo
-  from-controls h =
-      by-class (pick-yes _ _ (lt-ltb b 32 h)) ∙ ap (λ (x : Coding). control (getD controls b Ignored) x st b) resting
 
 pub graphic-acts : (s : Set) (b : ℕ) (a : Action) → 32 ≤ b → b ≤ 127 → ((c : Coding) (st : List ℕ) → graphic s c st b ≡ React c st a) → ActsAs s b a
 graphic-acts s b a least most g =

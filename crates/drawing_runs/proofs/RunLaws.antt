@@ -1,7 +1,6 @@
 -- Runs over operands that come whole.
-use Rattle.drawing_runs.specs.Prelude.{ℕ, zero, suc, _+_, _≤_, _<_, add-assoc, add-suc, add-zero, arith, _≡_, refl, sym, ap, _∙_, subst, Bool, true, false, List, [], _∷_, _++_, append-nil, length, getD, set, take, drop, length-set, length-drop, take-suc, take-suc-set, getD-drop, getD-take, length-take-le, lt-ltb, le-ltb, leb, leb-true, ne-eqb, _&&_}
+use Rattle.drawing_runs.specs.Prelude.{ℕ, zero, suc, _+_, _≤_, _<_, add-assoc, add-suc, add-zero, arith, _≡_, refl, sym, ap, _∙_, subst, Bool, true, false, List, [], _∷_, _++_, append-nil, length, getD, set, take, drop, length-set, length-drop, take-suc, take-suc-set, getD-drop, getD-take, length-take-le, lt-ltb, le-ltb, ne-eqb}
 use Rattle.rules.specs.declared.Action.the-variants.{Data}
-use Rattle.rules.specs.declared.Domain.{Domain}
 use Rattle.rules.specs.declared.Drawing.{Drawing}
 use Rattle.rules.specs.declared.Operand.{Operand}
 use Rattle.rules.specs.declared.Point.{Point}
@@ -13,8 +12,7 @@ use Rattle.rules.specs.Numbers.{roomForStep}
 use Rattle.rules.specs.Choice.{pick}
 use Rattle.rules.specs.Operands.{point, begun}
 use Rattle.rules.specs.Drawing.{rowOf, lengthOf, withOperand, Outcome, Draw, andThen, apply, nextOperand, roleDue, applyBegun, takeByte, dataByte, act}
-use Rattle.rules.specs.Ranges.{domainFits}
-use Rattle.rules.proofs.Bools.{pick-yes, pick-no, and-left, and-right, true-false}
+use Rattle.rules.proofs.Bools.{pick-yes, pick-no, true-false}
 use Rattle.operands.specs.declared.whole.Whole.{Whole}
 use Rattle.operands.specs.declared.whole.Whole.the-variants.{Cut, Whole as Whole·point}
 use Rattle.operands.specs.Data.{allData, wholeOf}
@@ -143,10 +141,3 @@ whole-tells three bs v e = by (allData bs) refl e
     by : (t : Bool) → allData bs ≡ t → pick t (Whole·point (point three bs)) Cut ≡ Whole·point v → (allData bs ≡ true) × (v ≡ point three bs)
     by true a f = (a, sym (ap pointOf f))
     by false a f = cut-whole f
-
--- The bytes of a multi-value operand
-pub multi-range : (o : Domain) → domainFits o ≡ true → (1 ≤ o .multi) × (o .multi ≤ 8)
-unfolding domainFits
-multi-range o h =
-    let e = and-right (leb 1 (o .single) && leb (o .single) 4) (leb 1 (o .multi) && leb (o .multi) 8) h in
-    (leb-true 1 (o .multi) (and-left (leb 1 (o .multi)) (leb (o .multi) 8) e), leb-true (o .multi) 8 (and-right (leb 1 (o .multi)) (leb (o .multi) 8) e))

@@ -7,7 +7,7 @@ pub use native.Mathlib.Nat.{add-zero, add-assoc, add-suc}
 pub use native.Mathlib.Omega.{arith}
 pub use lib.ListN.{length, getD, take, drop, set, length-set, length-drop}
 pub use lib.Seq.{take-suc, take-suc-set, getD-drop, getD-take, length-take-le}
-pub use lib.Dec.{ltb, leb, eqb}
-pub use borrow.Author.Tests.{lt-ltb, le-ltb, leb-true, ne-eqb, not-false}
+pub use lib.Dec.{eqb}
+pub use borrow.Author.Tests.{lt-ltb, le-ltb, ne-eqb, not-false}
 pub use borrow.Author.Needs.{needs}
 pub use denote.Ref.{now}

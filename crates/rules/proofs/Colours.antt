@@ -1,23 +1,22 @@
 -- SET COLOUR's data: the colour they give, and what is left of it where they are cut short
-use Rattle.rules.specs.Prelude.{ℕ, zero, suc, _+_, _*_, _-_, _/_, _^_, _&&_, leb, _≤_, _<_, arith, _≡_, refl, sym, ap, _∙_, subst, false, List, [], _∷_, _++_, append-assoc, append-nil, set, length, length-append, length-set, length-take, take, take-all, take-append-le, take-suc-set, ltb, eqb, ne-eqb, ltb-true, ltb-false}
+use Rattle.rules.specs.Prelude.{ℕ, zero, suc, _+_, _*_, _-_, _/_, _^_, _≤_, _<_, arith, _≡_, refl, sym, ap, _∙_, subst, false, List, [], _∷_, _++_, append-assoc, append-nil, set, length, length-append, length-set, length-take, take, take-all, take-append-le, take-suc-set, ltb, eqb, ne-eqb, ltb-true, ltb-false}
 use Rattle.rules.specs.Types.{Done, Opcode, Data, Close, Point, Operand, Drawing, Look, Mode, Direct, Mapped, TwoColour, Record, Second, Verdict, Passes, Fails}
 use Rattle.rules.specs.Numbers.{origin}
 use Rattle.rules.specs.Operands.{greenBits, redBits, blueBits, bitsOf, fromTop, begun}
 use Rattle.rules.specs.Record.{figure, bytesOfAll}
 use Rattle.rules.specs.Drawing.{rows, rowOf, roleOf, dueAfter, lengthOf, withMap, withLook, withCommand, withOperand, withDue, colourOf, noOperand, Outcome, NotDrawn, Draw, andThen, mapAt, shadeMap, shadeTo, apply, roleDue, applyBegun, takeByte, dataByte, complete, finish, newCommand, closed, close, openCommand, act}
 use Rattle.rules.specs.Step.{State, removeSpent, FromPiece, Found}
-use Rattle.rules.specs.Ranges.{domainFits, opcodeFits, drawingFits}
+use Rattle.rules.specs.Ranges.{opcodeFits}
 use Rattle.rules.specs.Reading.{Always, stepThen, reading, tests, onVerdict, readTo, undivided, stepsLeft}
 use Rattle.rules.specs.Statements.{ReadsPdi, AllData, setColour, drawingLeft, GivesColour, lostBits, cutAfter, CutColour}
-use Rattle.rules.proofs.Bools.{and-left, and-right, by-test}
-use Rattle.rules.proofs.Spans.{least as spanLeast, most as spanMost}
+use Rattle.rules.proofs.Bools.{by-test}
 use Rattle.rules.proofs.Lists.{take-comm}
 use Rattle.rules.proofs.Bits.{Bits, green-bits, red-bits, blue-bits, all-bits, bits-take, from-take}
 use Rattle.rules.proofs.RecordCount.{records-append}
 use Rattle.rules.proofs.Steps.{tests-valid}
 use Rattle.rules.proofs.Readings.{budget, reads-halt, refused-done}
-use Rattle.rules.proofs.PdiReadings.{afterByte, pdi-found, pdi-after, pdi-reads, pdi-refuses, Runs, none, more, data-left, data-budget}
-use Rattle.rules.proofs.DrawingRanges.{Drawn, Fits, act-fits, then-drawn, dropped-same}
+use Rattle.rules.proofs.PdiReadings.{afterByte, pdi-found, pdi-after, pdi-reads, pdi-refuses, DataRun, none, more, data-finished, data-budget}
+use Rattle.rules.proofs.DrawingRanges.{Drawn, Fits, act-fits, valid-domain, multi-range, then-drawn, dropped-same}
 
 -- What giving a colour makes of the look and the map, and its records
 abbrev shadedLook : Mode → ℕ → ℕ → ℕ → Look → Look
@@ -134,7 +133,7 @@ module _ (p : Point) (d : Drawing) (least : 1 ≤ d .look .domain .multi) (most 
   record TookAll (cs bs : List ℕ) (e : Drawing) (rs : List Record) : Type 0 where
     left : Drawing
     records : List Record
-    runs : Runs e bs left records
+    runs : DataRun e bs left records
     took : Took (cs ++ bs) left (rs ++ records)
 
   took-all : (cs bs : List ℕ) (e : Drawing) (rs : List Record) → Took cs e rs → TookAll cs bs e rs
@@ -218,13 +217,6 @@ record ColourOpened (w : State) : Type 0 where
   reads : (bs : List ℕ) → setColour w bs
       ≡ stepThen FromPiece (bytesOfAll before) (reading Always left (afterByte w (collecting (from .pen .point) noOperand from)) bs)
 
-multi-bounds : (d : Drawing) → Fits d → (1 ≤ d .look .domain .multi) × (d .look .domain .multi ≤ 8)
-unfolding drawingFits domainFits
-multi-bounds d f =
-    let o = d .look .domain in
-    let g = and-right (leb 1 (o .single) && leb (o .single) 4) (leb 1 (o .multi) && leb (o .multi) 8) (and-left (domainFits o) _ f) in
-    (spanLeast 1 (o .multi) 8 g, spanMost 1 (o .multi) 8 g)
-
 colour-opened : (w : State) (bs : List ℕ) → ReadsPdi w → setColour w bs .answer ≡ Done → ColourOpened w
 unfolding undivided readTo onVerdict opcodeFits
 colour-opened w bs k a = by (tests w) refl (stepsLeft w) refl (act (Opcode 60) (w .session .drawing)) refl
@@ -237,7 +229,7 @@ colour-opened w bs k a = by (tests w) refl (stepsLeft w) refl (act (Opcode 60) (
     by Passes t (suc n) m (Draw d rs) e =
         let c = subst (Drawn IsCollecting) e (open-collecting (w .session .drawing)) in
         let f = subst Fits (c .is) (subst (Drawn Fits) e (act-fits (Opcode 60) (w .session .drawing) refl (tests-valid w t .drawing))) in
-        let s = multi-bounds (collecting (c .from .pen .point) noOperand (c .from)) f in
+        let s = multi-range (c .from .look .domain) (valid-domain (collecting (c .from .pen .point) noOperand (c .from)) f) in
         record {
           left = n;
           from = c .from;
@@ -265,8 +257,8 @@ gives w k o bs cs t i h n =
     let d = collecting p noOperand f in
     let u = afterByte w d in
     let a = takes o bs in
-    let l = data-left (a .runs) (o .left) u (pdi-after w k d) refl i n in
-    let z = data-left none (o .left) u (pdi-after w k d) refl tt (omega arith) in
+    let l = data-finished (a .runs) (o .left) u (pdi-after w k d) refl i n in
+    let z = data-finished none (o .left) u (pdi-after w k d) refl tt (omega arith) in
     let g = took-gave p f (o .least) (o .most) bs cs (a .left) (a .records) t h (a .took) in
     let x = ap drawingLeft (o .reads bs) ∙ l .drawing in
     let y = ap drawingLeft (o .reads []) ∙ z .drawing in

@@ -15,6 +15,7 @@ pub mod WorkedCalls
 pub mod DrawingRanges
 pub mod RecordCount
 pub mod CodingRanges
+pub mod Reacting
 pub mod Multiples
 pub mod Cursors
 pub mod Steps

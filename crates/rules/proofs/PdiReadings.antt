@@ -1,14 +1,14 @@
 -- Bytes that are read in PDI from the page: an opcode, and data
 use Rattle.rules.specs.Prelude.{ℕ, zero, suc, _≤_, arith, _≡_, refl, sym, ap, _∙_, List, [], _∷_, _++_, length, ltb, le-ltb, le-of-suc-le-suc, suc-le-suc, not-suc-le-zero}
-use Rattle.rules.specs.Types.{Nothing, Done, Opcode, Data, Drawing, Record, Refusal}
+use Rattle.rules.specs.Types.{Done, Opcode, Data, Drawing, Record, Refusal}
 use Rattle.rules.specs.Choice.{pick}
 use Rattle.rules.specs.Record.{bytesOfAll}
-use Rattle.rules.specs.Coding.{wait, graphic, classOf, reactTo, react}
+use Rattle.rules.specs.Coding.{graphic}
 use Rattle.rules.specs.Drawing.{NotDrawn, Draw, act}
 use Rattle.rules.specs.Step.{State, stepped, removeSpent, FromPiece, NothingLeft, Found, seekAt, seek, onOutcome, onReaction, opensInside, interpret}
 use Rattle.rules.specs.Reading.{Reading, Always, halts, stepThen, reading}
 use Rattle.rules.specs.Statements.{ReadsPdi, AllData, drawingLeft}
-use Rattle.rules.proofs.Bools.{by-test}
+use Rattle.rules.proofs.Reacting.{from-set}
 use Rattle.rules.proofs.RecordCount.{records-append}
 use Rattle.rules.proofs.Steps.{remove-twice}
 use Rattle.rules.proofs.Readings.{budget, refused, reads-done, reads-halt, reads-step, refused-done}
@@ -16,7 +16,7 @@ use Rattle.rules.proofs.Readings.{budget, refused, reads-done, reads-ha
 -- The state after a byte
 abbrev pub afterByte : State → Drawing → State
 afterByte w d =
-    let v = removeSpent w in stepped (v .session .bodies) (wait Nothing (v .session .coding)) d (v .store) v
+    let v = removeSpent w in stepped (v .session .bodies) (v .session .coding) d (v .store) v
 
 module _ (w : State) (k : ReadsPdi w) where
   pub pdi-found : (b : ℕ) (bs : List ℕ) → seek (removeSpent w) (b ∷ bs) ≡ Found b (removeSpent w) FromPiece bs
@@ -29,19 +29,16 @@ module _ (w : State) (k : ReadsPdi w) where
 
   pdi-move : (b : ℕ) → 32 ≤ b → b ≤ 127
       → interpret (removeSpent w) FromPiece b
-      ≡ onOutcome (act (pick (ltb b 64) (Opcode b) (Data b)) (w .session .drawing)) (wait Nothing (w .session .coding)) (w .store) (removeSpent w)
-  unfolding interpret opensInside onReaction react reactTo classOf graphic removeSpent
-  pdi-move b l h =
-      by-test (ltb b 48)
-      (λ t. rw (le-ltb 127 b h, le-ltb b 32 l, t, k .nothing, k .pdi))
-      (λ t. rw (le-ltb 127 b h, le-ltb b 32 l, t, k .nothing, k .pdi))
+      ≡ onOutcome (act (pick (ltb b 64) (Opcode b) (Data b)) (w .session .drawing)) (w .session .coding) (w .store) (removeSpent w)
+  unfolding interpret opensInside onReaction graphic removeSpent
+  pdi-move b l h = rw (from-set b h (w .session .coding) (w .store) (k .nothing) l, k .pdi)
 
   pub pdi-after : (d : Drawing) → ReadsPdi (afterByte w d)
   unfolding removeSpent
   pdi-after d =
       record {
         pdi = k .pdi;
-        nothing = refl;
+        nothing = k .nothing;
         noBody = ap (λ (v : State). v .session .bodies .depth) (remove-twice w) ∙ k .noBody;
       }
 
@@ -58,26 +55,26 @@ module _ (w : State) (k : ReadsPdi w) where
   pdi-refuses n b bs {r} l h e = reads-halt Always w {r = r} refl (refused (pdi-found b bs) (rw (pdi-move b l h, e)))
 
 -- Data bytes, one after the other, with the drawing left and their records
-pub data Runs : Drawing → List ℕ → Drawing → List Record → Type 0 where
-  none : {d : Drawing} → Runs d [] d []
-  more : {d n e : Drawing} {b : ℕ} {bs : List ℕ} {qs rs : List Record} → act (Data b) d ≡ Draw n qs → Runs n bs e rs → Runs d (b ∷ bs) e (qs ++ rs)
+pub data DataRun : Drawing → List ℕ → Drawing → List Record → Type 0 where
+  none : {d : Drawing} → DataRun d [] d []
+  more : {d n e : Drawing} {b : ℕ} {bs : List ℕ} {qs rs : List Record} → act (Data b) d ≡ Draw n qs → DataRun n bs e rs → DataRun d (b ∷ bs) e (qs ++ rs)
 
 -- What a reading hands over that has nothing left to read
-pub record Left (x : Reading) (d : Drawing) (rs : List Record) : Type 0 where
+pub record Finished (x : Reading) (d : Drawing) (rs : List Record) : Type 0 where
   pub answer : x .answer ≡ Done
   pub drawing : drawingLeft x ≡ d
   pub records : x .records ≡ bytesOfAll rs
 
 -- Data read from the page
-pub data-left : {e : Drawing} {bs : List ℕ} {d : Drawing} {rs : List Record} → Runs e bs d rs
-    → (n : ℕ) (w : State) → ReadsPdi w → w .session .drawing ≡ e → AllData bs → length bs ≤ n → Left (reading Always n w bs) d rs
+pub data-finished : {e : Drawing} {bs : List ℕ} {d : Drawing} {rs : List Record} → DataRun e bs d rs
+    → (n : ℕ) (w : State) → ReadsPdi w → w .session .drawing ≡ e → AllData bs → length bs ≤ n → Finished (reading Always n w bs) d rs
 unfolding removeSpent bytesOfAll
-data-left none n w k e a h =
+data-finished none n w k e a h =
     rw (reads-done Always n w [] (pdi-none w k)) record { answer = refl; drawing = e; records = refl }
-data-left (more {b = b} {bs = bs} {qs = qs} {rs = rs} m t) zero w k e a h = absurd (not-suc-le-zero h)
-data-left (more {n = d} {b = b} {bs = bs} {qs = qs} {rs = rs} m t) (suc n) w k e a h =
+data-finished (more {b = b} {bs = bs} {qs = qs} {rs = rs} m t) zero w k e a h = absurd (not-suc-le-zero h)
+data-finished (more {n = d} {b = b} {bs = bs} {qs = qs} {rs = rs} m t) (suc n) w k e a h =
     let s : act (pick (ltb b 64) (Opcode b) (Data b)) (w .session .drawing) ≡ Draw d qs = rw (le-ltb b 64 (a .0), e) m in
-    let i = data-left t n (afterByte w d) (pdi-after w k d) refl (a .2) (le-of-suc-le-suc h) in
+    let i = data-finished t n (afterByte w d) (pdi-after w k d) refl (a .2) (le-of-suc-le-suc h) in
     rw (pdi-reads w k n b bs (omega arith) (a .1) s)
     record {
       answer = i .answer;
@@ -86,7 +83,7 @@ data-left (more {n = d} {b = b} {bs = bs} {qs = qs} {rs = rs} m t) (suc n) w k e
     }
 
 -- and the budget that it needs
-pub data-budget : {e : Drawing} {bs : List ℕ} {d : Drawing} {rs : List Record} → Runs e bs d rs
+pub data-budget : {e : Drawing} {bs : List ℕ} {d : Drawing} {rs : List Record} → DataRun e bs d rs
     → (n : ℕ) (w : State) → ReadsPdi w → w .session .drawing ≡ e → AllData bs → reading Always n w bs .answer ≡ Done → length bs ≤ n
 data-budget none n w k e a h = omega arith
 data-budget (more {b = b} {bs = bs} m t) zero w k e a h =

@@ -1,9 +1,7 @@
 -- The tip after a run, put together with a text
-use Rattle.turn_runs.specs.Prelude.{ℕ, zero, suc, _+_, _≤_, arith, Bool, true, false, List, length, _≡_, refl, sym, ap, _∙_, subst}
+use Rattle.turn_runs.specs.Prelude.{ℕ, zero, suc, _+_, _≤_, arith, Bool, true, false, List, length, _≡_, refl, subst}
 use Rattle.rules.specs.declared.Command.{Command}
 use Rattle.rules.specs.declared.Look.{Look}
-use Rattle.rules.specs.declared.Operand.{Operand}
-use Rattle.rules.specs.declared.Pen.{Pen}
 use Rattle.rules.specs.declared.Point.{Point}
 use Rattle.rules.specs.declared.Set.{Set}
 use Rattle.rules.specs.declared.Set.the-variants.{Pdi}
@@ -15,7 +13,7 @@ use Rattle.pens.specs.declared.tips.Tip.{Tip}
 use Rattle.pens.proofs.TipLaws.{caught-follows}
 use Rattle.figures.specs.Carried.{Carried}
 use Rattle.figures.proofs.Carrying.{carry-most, carry-length}
-use Rattle.drawing_runs.specs.Run.{Run, none, more, standing, RunsTo}
+use Rattle.drawing_runs.specs.Run.{Run, none, more, RunsTo}
 use Rattle.drawing_runs.specs.Strokes.{penAfter, PassesTo}
 use Rattle.drawing_runs.specs.declared.Passed.{Passed}
 use Rattle.drawing_runs.specs.declared.Ran.{Ran}

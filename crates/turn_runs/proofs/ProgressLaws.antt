@@ -2,7 +2,6 @@
 use Rattle.turn_runs.specs.Prelude.{ℕ, zero, suc, _+_, _-_, _≤_, _<_, add-zero, arith, _≡_, refl, sym, ap, subst, Bool, true, false, List, length, getD, set, set-getD, ltb, ltb-true, ltb-false}
 use Rattle.rules.specs.declared.Command.{Command}
 use Rattle.rules.specs.declared.Cursor.{Cursor}
-use Rattle.rules.specs.declared.Drawing.{Drawing}
 use Rattle.rules.specs.declared.Look.{Look}
 use Rattle.rules.specs.declared.Pen.{Pen}
 use Rattle.rules.specs.declared.Set.{Set}
@@ -11,9 +10,7 @@ use Rattle.rules.specs.declared.Status.the-variants.{Running}
 use Rattle.rules.specs.Numbers.{mostBytes}
 use Rattle.rules.specs.Bodies.{bodyAt}
 use Rattle.rules.specs.Coding.{setOf}
-use Rattle.rules.specs.Ranges.{domainFits, colourFits, commandFits, drawingFits}
 use Rattle.rules.specs.Step.{stateOf}
-use Rattle.rules.proofs.Bools.{and-left, and-right}
 use Rattle.store.specs.Stretch.{Gives}
 use Rattle.bodies.specs.Stack.{bodiesOf}
 use Rattle.figures.specs.Carried.{Carried, drawingOf}
@@ -164,12 +161,3 @@ module _ (budget : ℕ) (p : Progress) (cells places firsts : List ℕ) (pen : P
             → Walk piece (placed (stateOf budget (p .steps) Running (bodiesOf d cells places) (codingOf (p .sets) (p .waiting) firsts) (drawingOf pen command look map) st) (p .at) (p .written) out) (there d)
         by zero r l = walk-piece r l
         by (suc i) r l = walk-body i r l
-
--- What the tests before a feed say of a drawing state
-pub valid-domain : (g : Drawing) → drawingFits g ≡ true → domainFits (g .look .domain) ≡ true
-unfolding drawingFits
-valid-domain g h = and-left (domainFits (g .look .domain)) _ h
-
-pub valid-command : (g : Drawing) → drawingFits g ≡ true → commandFits (g .command) ≡ true
-unfolding drawingFits
-valid-command g h = and-left (commandFits (g .command)) _ (and-right (colourFits (g .look .colour)) _ (and-right (domainFits (g .look .domain)) _ h))

@@ -12,7 +12,7 @@ use Rattle.rules.specs.Drawing.{rowOf, roleOf}
 use Rattle.drawing_runs.specs.Run.{standing}
 use Rattle.figures.specs.Tracing.{Inks, penAt}
 use Rattle.command_runs.proofs.CommandLaws.{Stands, stands-none, stands-moved, stands-on, stands-opened, Reaches, reaches-none, reaches-opened, reaches-dropped, reaches-end, row-next}
-use Rattle.drawing_runs.proofs.RunLaws.{multi-range}
+use Rattle.rules.proofs.DrawingRanges.{multi-range}
 use Rattle.command_runs.proofs.PointLaws.{reaches-point}
 use Rattle.command_runs.proofs.run_commands.Statement.{statement}
 use Rattle.command_runs.proofs.run_commands.Tie as tie

@@ -1,7 +1,7 @@
 use Rattle.setting_runs.specs.Prelude.{arith, refl, sym, ap, _∙_, now, take, drop}
 use Rattle.rules.specs.declared.Domain.{Domain}
 use Rattle.operands.specs.Data.{wholeOf}
-use Rattle.drawing_runs.proofs.RunLaws.{multi-range}
+use Rattle.rules.proofs.DrawingRanges.{multi-range}
 use Rattle.setting_runs.proofs.SettingLaws.{field-set, none-set}
 use borrow.Author.Needs.{needs}
 use Rattle.setting_runs.proofs.put_size.Statement.{statement}

@@ -1,4 +1,3 @@
-use Rattle.turn_runs.specs.Prelude.{needs}
 use Rattle.turn_runs.proofs.DrewLaws.{tip-moved, tip-still}
 use Rattle.turn_runs.proofs.drawn.tip_after.Statement.{statement}
 use Rattle.turn_runs.proofs.drawn.tip_after.Tie as tie

@@ -1,11 +1,12 @@
-use Rattle.turn_runs.specs.Prelude.{now, arith, refl, ap, ℕ, List, [], needs}
+use Rattle.turn_runs.specs.Prelude.{now, arith, refl, ap, [], needs}
 use Rattle.pens.specs.Tips.{penOf}
 use Rattle.pens.specs.Words.{textFrom}
 use Rattle.progress.specs.declared.Reached.{Reached}
 use Rattle.figures.specs.Carried.{drawingOf}
 use Rattle.rules.proofs.Steps.{valid-store, valid-depth}
 use Rattle.coded_turns.proofs.ProgressLaws.{walk-then, walk-stands, walk-steps}
-use Rattle.turn_runs.proofs.ProgressLaws.{walk-from, valid-domain, valid-command}
+use Rattle.rules.proofs.DrawingRanges.{valid-domain, valid-command}
+use Rattle.turn_runs.proofs.ProgressLaws.{walk-from}
 use Rattle.turn_runs.proofs.run.run.Statement.{statement}
 use Rattle.turn_runs.proofs.run.run.Tie as tie
 
