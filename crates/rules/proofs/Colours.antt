@@ -7,14 +7,14 @@ use Rattle.rules.specs.Record.{figure, bytesOfAll}
 use Rattle.rules.specs.Drawing.{rows, rowOf, roleOf, dueAfter, lengthOf, withMap, withLook, withCommand, withOperand, withDue, colourOf, noOperand, Outcome, NotDrawn, Draw, andThen, mapAt, shadeMap, shadeTo, apply, roleDue, applyBegun, takeByte, dataByte, complete, finish, newCommand, closed, close, openCommand, act}
 use Rattle.rules.specs.Step.{State, removeSpent, FromPiece, Found}
 use Rattle.rules.specs.Ranges.{opcodeFits}
-use Rattle.rules.specs.Reading.{Always, stepThen, reading, tests, onVerdict, readTo, undivided, stepsLeft}
+use Rattle.rules.specs.Reading.{Always, stepThen, reading, tests, undivided, stepsLeft}
 use Rattle.rules.specs.Statements.{ReadsPdi, AllData, setColour, drawingLeft, GivesColour, lostBits, cutAfter, CutColour}
 use Rattle.rules.proofs.Bools.{by-test}
 use Rattle.rules.proofs.Lists.{take-comm}
 use Rattle.rules.proofs.Bits.{Bits, green-bits, red-bits, blue-bits, all-bits, bits-take, from-take}
 use Rattle.rules.proofs.RecordCount.{records-append}
 use Rattle.rules.proofs.Steps.{tests-valid}
-use Rattle.rules.proofs.Readings.{budget, reads-halt, refused-done}
+use Rattle.rules.proofs.Readings.{budget, reads-halt, reads-failed, reads-passed, refused-done}
 use Rattle.rules.proofs.PdiReadings.{afterByte, pdi-found, pdi-after, pdi-reads, pdi-refuses, DataRun, none, more, data-finished, data-budget}
 use Rattle.rules.proofs.DrawingRanges.{Drawn, Fits, act-fits, valid-domain, multi-range, then-drawn, dropped-same}
 
@@ -218,14 +218,15 @@ record ColourOpened (w : State) : Type 0 where
       ≡ stepThen FromPiece (bytesOfAll before) (reading Always left (afterByte w (collecting (from .pen .point) noOperand from)) bs)
 
 colour-opened : (w : State) (bs : List ℕ) → ReadsPdi w → setColour w bs .answer ≡ Done → ColourOpened w
-unfolding undivided readTo onVerdict opcodeFits
+unfolding undivided opcodeFits
 colour-opened w bs k a = by (tests w) refl (stepsLeft w) refl (act (Opcode 60) (w .session .drawing)) refl
   where
     by : (t : Verdict) → tests w ≡ t → (n : ℕ) → stepsLeft w ≡ n → (o : Outcome) → act (Opcode 60) (w .session .drawing) ≡ o → ColourOpened w
-    by (Fails r) t n m o e = refused-done (rw (t) at a)
-    by Passes t zero m o e = refused-done (rw (t, m, reads-halt Always w refl (budget (Found 60 (removeSpent w) FromPiece bs) (pdi-found w k 60 bs) tt)) at a)
+    by (Fails r) t n m o e = refused-done (rw (reads-failed Always w (60 ∷ bs) t) at a)
+    by Passes t zero m o e =
+        refused-done (rw (reads-passed Always w (60 ∷ bs) t, m, reads-halt Always w refl (budget (Found 60 (removeSpent w) FromPiece bs) (pdi-found w k 60 bs) tt)) at a)
     by Passes t (suc n) m (NotDrawn r) e =
-        refused-done (rw (t, m, pdi-refuses w k n 60 bs (omega arith) (omega arith) e) at a)
+        refused-done (rw (reads-passed Always w (60 ∷ bs) t, m, pdi-refuses w k n 60 bs (omega arith) (omega arith) e) at a)
     by Passes t (suc n) m (Draw d rs) e =
         let c = subst (Drawn IsCollecting) e (open-collecting (w .session .drawing)) in
         let f = subst Fits (c .is) (subst (Drawn Fits) e (act-fits (Opcode 60) (w .session .drawing) refl (tests-valid w t .drawing))) in
@@ -236,7 +237,7 @@ colour-opened w bs k a = by (tests w) refl (stepsLeft w) refl (act (Opcode 60) (
           before = rs;
           least = s .0;
           most = s .1;
-          reads = λ cs. rw (t, m) (pdi-reads w k n 60 cs (omega arith) (omega arith) (e ∙ ap (λ (x : Drawing). Draw x rs) (c .is)));
+          reads = λ cs. rw (reads-passed Always w (60 ∷ cs) t, m) (pdi-reads w k n 60 cs (omega arith) (omega arith) (e ∙ ap (λ (x : Drawing). Draw x rs) (c .is)));
         }
 
 -- All its data taken
