@@ -14,12 +14,12 @@ use Rattle.rules.specs.declared.Row.{Row}
 use Rattle.rules.specs.declared.Set.the-variants.{Pdi}
 use Rattle.rules.specs.declared.Text.{Text}
 use Rattle.rules.specs.Numbers.{roomForStep}
-use Rattle.rules.specs.Operands.{point}
+use Rattle.rules.specs.Operands.{point, allData}
 use Rattle.rules.specs.Text.{follow}
 use Rattle.rules.specs.Drawing.{rowOf, roleOf, dueAfter, lengthOf, withDue, Draw, apply, nextOperand}
 use Rattle.rules.proofs.Bools.{false-true}
 use Rattle.operands.specs.declared.whole.Whole.the-variants.{Whole as Whole·point}
-use Rattle.operands.specs.Data.{allData, wholeOf}
+use Rattle.operands.specs.Data.{wholeOf}
 use Rattle.figures.specs.Carried.{Carried, Puts, drawingOf}
 use Rattle.figures.specs.Tracing.{penAt, isPoint}
 use Rattle.figures.proofs.Carrying.{puts-carried}

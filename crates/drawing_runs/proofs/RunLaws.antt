@@ -10,13 +10,14 @@ use Rattle.rules.specs.declared.Set.{Set}
 use Rattle.rules.specs.declared.Set.the-variants.{Pdi}
 use Rattle.rules.specs.Numbers.{roomForStep}
 use Rattle.rules.specs.Choice.{pick}
-use Rattle.rules.specs.Operands.{point, begun}
+use Rattle.rules.specs.Operands.{point, allData, begun}
 use Rattle.rules.specs.Drawing.{rowOf, lengthOf, withOperand, Outcome, Draw, andThen, apply, nextOperand, roleDue, applyBegun, takeByte, dataByte, act}
 use Rattle.rules.proofs.Bools.{pick-yes, pick-no, true-false}
 use Rattle.operands.specs.declared.whole.Whole.{Whole}
 use Rattle.operands.specs.declared.whole.Whole.the-variants.{Cut, Whole as Whole·point}
-use Rattle.operands.specs.Data.{allData, wholeOf}
-use Rattle.operands.proofs.WholeLaws.{data-range, all-at}
+use Rattle.operands.specs.Data.{wholeOf}
+use Rattle.rules.proofs.Reacting.{data-range}
+use Rattle.operands.proofs.WholeLaws.{all-at}
 use Rattle.figures.specs.Carried.{Carried, carry}
 use Rattle.figures.proofs.Carrying.{carry-none}
 use Rattle.drawing_runs.specs.Run.{ActsAs, Run, none, more}

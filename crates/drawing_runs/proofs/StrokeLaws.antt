@@ -12,7 +12,7 @@ use Rattle.rules.specs.declared.Record.{Record}
 use Rattle.rules.specs.declared.Row.{Row}
 use Rattle.rules.specs.declared.Set.the-variants.{Pdi}
 use Rattle.rules.specs.Numbers.{roomForStep, origin}
-use Rattle.rules.specs.Operands.{point}
+use Rattle.rules.specs.Operands.{point, allData}
 use Rattle.rules.specs.Record.{words, bytesOf, flags, recordOf, figure}
 use Rattle.rules.specs.Text.{follow}
 use Rattle.rules.proofs.TextLaws.{follow-follow}
@@ -20,7 +20,6 @@ use Rattle.rules.specs.Drawing.{row, rows, rowOf, roleOf, dueAfter, lengthOf, w
 use Rattle.records.specs.declared.Head.{Head}
 use Rattle.records.specs.Bytes.{overwrite, headBytes}
 use Rattle.records.proofs.Heads.{record-bytes}
-use Rattle.operands.specs.Data.{allData}
 use Rattle.operands.proofs.WholeLaws.{is-three}
 use Rattle.figures.specs.Carried.{Carried, carry, drawingOf}
 use Rattle.figures.proofs.Carrying.{carry-none, carry-one}

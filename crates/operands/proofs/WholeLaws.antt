@@ -1,11 +1,11 @@
 -- Operands whose bytes have all come
 use Rattle.operands.specs.Prelude.{_≡_, refl, sym, ap, _∙_, Bool, true, false, not, _&&_, List, [], _∷_, _++_, ℕ, zero, suc, _+_, _*_, _/_, _%_, _≤_, _<_, le-of-suc-le-suc, not-suc-le-zero, add-one, arith, leb, eqb, length, getD, take, drop, length-drop, take-suc, drop-cons, getD-drop, length-take-le, getD-take, leb-true, leb-false, eq-eqb, ne-eqb, eqb-true, not-true}
 use Rattle.rules.specs.declared.Point.{Point}
-use Rattle.rules.specs.Operands.{bitsOf, fromTop, point}
+use Rattle.rules.specs.Operands.{bitsOf, fromTop, point, isData, allData}
 use Rattle.rules.proofs.Bools.{true-false, and-left, and-right, and-both, by-test, pick-yes, pick-no}
 use Rattle.operands.specs.declared.whole.Whole.the-variants.{Cut, Whole as Whole·point}
 use Rattle.operands.specs.Steps.{joined}
-use Rattle.operands.specs.Data.{isData, allData, wholeOf, threeOf, threeAt}
+use Rattle.operands.specs.Data.{wholeOf, threeOf, threeAt}
 use Rattle.operands.proofs.Operands.{point-more, point-next, join-two}
 
 pub byte-most : (b : ℕ) → b < 256 → b ≤ 255
@@ -20,10 +20,6 @@ data-test b = go (leb 64 b) (leb b 127) refl refl
     go true true e f = eq-eqb (b / 64) 1 (omega (arith, leb-true 64 b e, leb-true b 127 f))
     go true false e f = ne-eqb (b / 64) 1 (λ z. absurd (omega (arith, z, leb-false b 127 f)))
     go false u e f = ne-eqb (b / 64) 1 (λ z. absurd (omega (arith, z, leb-false 64 b e)))
-
-pub data-range : (b : ℕ) → isData b ≡ true → (64 ≤ b) × (b ≤ 127)
-unfolding isData
-data-range b e = (leb-true 64 b (and-left (leb 64 b) (leb b 127) e), leb-true b 127 (and-right (leb 64 b) (leb b 127) e))
 
 pub all-more : (bs : List ℕ) (b : ℕ) → allData bs ≡ true → isData b ≡ true → allData (bs ++ (b ∷ [])) ≡ true
 unfolding allData

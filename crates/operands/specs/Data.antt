@@ -1,17 +1,9 @@
 -- Operands whose bytes have all come
-use Rattle.operands.specs.Prelude.{ℕ, _+_, _*_, Bool, true, _&&_, List, [], _∷_, leb, getD}
+use Rattle.operands.specs.Prelude.{ℕ, _+_, _*_, Bool, List, getD}
 use Rattle.rules.specs.Choice.{pick}
-use Rattle.rules.specs.Operands.{point}
+use Rattle.rules.specs.Operands.{point, allData}
 use Rattle.operands.specs.declared.whole.Whole.{Whole}
 use Rattle.operands.specs.declared.whole.Whole.the-variants.{Cut, Whole as Whole·point}
-
--- "In PDI .. 4/0 to 7/15 is data"
-unfoldable pub isData : ℕ → Bool
-isData b = leb 64 b && leb b 127
-
-unfoldable pub allData : List ℕ → Bool
-allData [] = true
-allData (b ∷ bs) = isData b && allData bs
 
 -- The point of bytes that are all data
 unfoldable pub wholeOf : Bool → List ℕ → Whole

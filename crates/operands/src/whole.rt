@@ -7,8 +7,8 @@ ghost use mathlib.Core.List.{[], _∷_};
 ghost use Prim.Native.Nat.{ℕ, _+_, _*_, _/_, _%_, _<_, _≤_};
 ghost use lib.ListN.{length, getD, take, drop};
 ghost use lib.Dec.{eqb};
-ghost use Rattle.rules.specs.Operands.{point};
-ghost use Rattle.operands.specs.Data.{allData, wholeOf, threeOf, threeAt};
+ghost use Rattle.rules.specs.Operands.{point, allData};
+ghost use Rattle.operands.specs.Data.{wholeOf, threeOf, threeAt};
 
 // The point of an operand, or that not all its bytes are data.
 pub enum Whole {

@@ -1,15 +1,15 @@
 -- SET COLOUR's data: the colour they give, and what is left of it where they are cut short
-use Rattle.rules.specs.Prelude.{ℕ, zero, suc, _+_, _*_, _-_, _/_, _^_, _≤_, _<_, arith, _≡_, refl, sym, ap, _∙_, subst, false, List, [], _∷_, _++_, append-assoc, append-nil, set, length, length-append, length-set, length-take, take, take-all, take-append-le, take-suc-set, ltb, eqb, ne-eqb, ltb-true, ltb-false}
+use Rattle.rules.specs.Prelude.{ℕ, zero, suc, _+_, _*_, _-_, _/_, _^_, _≤_, _<_, arith, _≡_, refl, sym, ap, _∙_, subst, true, false, List, [], _∷_, _++_, append-assoc, append-nil, set, length, length-append, length-set, length-take, take, take-all, take-append-le, take-suc-set, ltb, eqb, ne-eqb, ltb-true, ltb-false}
 use Rattle.rules.specs.Types.{Done, Opcode, Data, Close, Point, Operand, Drawing, Look, Mode, Direct, Mapped, TwoColour, Record, Second, Verdict, Passes, Fails}
 use Rattle.rules.specs.Numbers.{origin}
-use Rattle.rules.specs.Operands.{greenBits, redBits, blueBits, bitsOf, fromTop, begun}
+use Rattle.rules.specs.Operands.{greenBits, redBits, blueBits, bitsOf, fromTop, isData, allData, begun}
 use Rattle.rules.specs.Record.{figure, bytesOfAll}
 use Rattle.rules.specs.Drawing.{rows, rowOf, roleOf, dueAfter, lengthOf, withMap, withLook, withCommand, withOperand, withDue, colourOf, noOperand, Outcome, NotDrawn, Draw, andThen, mapAt, shadeMap, shadeTo, apply, roleDue, applyBegun, takeByte, dataByte, complete, finish, newCommand, closed, close, openCommand, act}
 use Rattle.rules.specs.Step.{State, removeSpent, FromPiece, Found}
 use Rattle.rules.specs.Ranges.{opcodeFits}
 use Rattle.rules.specs.Reading.{Always, stepThen, reading, tests, undivided, stepsLeft}
-use Rattle.rules.specs.Statements.{ReadsPdi, AllData, setColour, drawingLeft, GivesColour, lostBits, cutAfter, CutColour}
-use Rattle.rules.proofs.Bools.{by-test}
+use Rattle.rules.specs.Statements.{ReadsPdi, setColour, drawingLeft, GivesColour, lostBits, cutAfter, CutColour}
+use Rattle.rules.proofs.Bools.{and-left, and-right, and-both, by-test}
 use Rattle.rules.proofs.Lists.{take-comm}
 use Rattle.rules.proofs.Bits.{Bits, green-bits, red-bits, blue-bits, all-bits, bits-take, from-take}
 use Rattle.rules.proofs.RecordCount.{records-append}
@@ -250,8 +250,8 @@ takes o bs =
 
 -- The bytes cs of its operand give their colour
 gives : (w : State) (k : ReadsPdi w) (o : ColourOpened w) (bs cs : List ℕ) → take (o .from .look .domain .multi) bs ≡ cs
-    → AllData bs → 1 ≤ length bs → length bs ≤ o .left → GivesColour w bs (value greenBits cs) (value redBits cs) (value blueBits cs)
-unfolding bytesOfAll
+    → allData bs ≡ true → 1 ≤ length bs → length bs ≤ o .left → GivesColour w bs (value greenBits cs) (value redBits cs) (value blueBits cs)
+unfolding bytesOfAll allData
 gives w k o bs cs t i h n =
     let f = o .from in
     let p = f .pen .point in
@@ -259,7 +259,7 @@ gives w k o bs cs t i h n =
     let u = afterByte w d in
     let a = takes o bs in
     let l = data-finished (a .runs) (o .left) u (pdi-after w k d) refl i n in
-    let z = data-finished none (o .left) u (pdi-after w k d) refl tt (omega arith) in
+    let z = data-finished none (o .left) u (pdi-after w k d) refl refl (omega arith) in
     let g = took-gave p f (o .least) (o .most) bs cs (a .left) (a .records) t h (a .took) in
     let x = ap drawingLeft (o .reads bs) ∙ l .drawing in
     let y = ap drawingLeft (o .reads []) ∙ z .drawing in
@@ -292,13 +292,14 @@ cut-value f wide bits k n bs =
     ∙ from-take 8 (2 * k) (all-bits f bits (take n bs))
     ∙ ap (λ (m : ℕ). v / 2 ^ m * 2 ^ m) e
 
-cut-data : (k : ℕ) (bs : List ℕ) → AllData bs → AllData (take k bs)
-cut-data zero bs i = tt
-cut-data (suc k) [] i = tt
-cut-data (suc k) (b ∷ bs) i = (i .0, i .1, cut-data k bs (i .2))
+cut-data : (k : ℕ) (bs : List ℕ) → allData bs ≡ true → allData (take k bs) ≡ true
+unfolding allData
+cut-data zero bs i = refl
+cut-data (suc k) [] i = refl
+cut-data (suc k) (b ∷ bs) i = and-both (and-left (isData b) (allData bs) i) (cut-data k bs (and-right (isData b) (allData bs) i))
 
 -- SET COLOUR data cut after k bytes, k at least 1, for every N, in every mode
-pub cut-colour : (w : State) (bs : List ℕ) (k : ℕ) → ReadsPdi w → AllData bs → 1 ≤ length bs → 1 ≤ k → setColour w bs .answer ≡ Done → CutColour w bs k
+pub cut-colour : (w : State) (bs : List ℕ) (k : ℕ) → ReadsPdi w → allData bs ≡ true → 1 ≤ length bs → 1 ≤ k → setColour w bs .answer ≡ Done → CutColour w bs k
 unfolding greenBits redBits blueBits
 cut-colour w bs k p i h j a =
     let o = colour-opened w bs p a in

@@ -1,14 +1,16 @@
 -- Bytes that are read in PDI from the page: an opcode, and data
-use Rattle.rules.specs.Prelude.{ℕ, zero, suc, _≤_, arith, _≡_, refl, sym, ap, _∙_, List, [], _∷_, _++_, length, ltb, le-ltb, le-of-suc-le-suc, suc-le-suc, not-suc-le-zero}
+use Rattle.rules.specs.Prelude.{ℕ, zero, suc, _≤_, arith, _≡_, refl, sym, ap, _∙_, true, List, [], _∷_, _++_, length, ltb, le-ltb, le-of-suc-le-suc, suc-le-suc, not-suc-le-zero}
 use Rattle.rules.specs.Types.{Done, Opcode, Data, Drawing, Record, Refusal}
 use Rattle.rules.specs.Choice.{pick}
+use Rattle.rules.specs.Operands.{isData, allData}
 use Rattle.rules.specs.Record.{bytesOfAll}
 use Rattle.rules.specs.Coding.{graphic}
 use Rattle.rules.specs.Drawing.{NotDrawn, Draw, act}
 use Rattle.rules.specs.Step.{State, stepped, removeSpent, FromPiece, NothingLeft, Found, seekAt, seek, onOutcome, onReaction, opensInside, interpret}
 use Rattle.rules.specs.Reading.{Reading, Always, halts, stepThen, reading}
-use Rattle.rules.specs.Statements.{ReadsPdi, AllData, drawingLeft}
-use Rattle.rules.proofs.Reacting.{from-set}
+use Rattle.rules.specs.Statements.{ReadsPdi, drawingLeft}
+use Rattle.rules.proofs.Bools.{and-left, and-right}
+use Rattle.rules.proofs.Reacting.{from-set, data-range}
 use Rattle.rules.proofs.RecordCount.{records-append}
 use Rattle.rules.proofs.Steps.{remove-twice}
 use Rattle.rules.proofs.Readings.{budget, refused, reads-done, reads-halt, reads-step, refused-done}
@@ -67,15 +69,16 @@ pub record Finished (x : Reading) (d : Drawing) (rs : List Record) : Type 0 wher
 
 -- Data read from the page
 pub data-finished : {e : Drawing} {bs : List ℕ} {d : Drawing} {rs : List Record} → DataRun e bs d rs
-    → (n : ℕ) (w : State) → ReadsPdi w → w .session .drawing ≡ e → AllData bs → length bs ≤ n → Finished (reading Always n w bs) d rs
-unfolding removeSpent bytesOfAll
+    → (n : ℕ) (w : State) → ReadsPdi w → w .session .drawing ≡ e → allData bs ≡ true → length bs ≤ n → Finished (reading Always n w bs) d rs
+unfolding removeSpent bytesOfAll allData
 data-finished none n w k e a h =
     rw (reads-done Always n w [] (pdi-none w k)) record { answer = refl; drawing = e; records = refl }
 data-finished (more {b = b} {bs = bs} {qs = qs} {rs = rs} m t) zero w k e a h = absurd (not-suc-le-zero h)
 data-finished (more {n = d} {b = b} {bs = bs} {qs = qs} {rs = rs} m t) (suc n) w k e a h =
-    let s : act (pick (ltb b 64) (Opcode b) (Data b)) (w .session .drawing) ≡ Draw d qs = rw (le-ltb b 64 (a .0), e) m in
-    let i = data-finished t n (afterByte w d) (pdi-after w k d) refl (a .2) (le-of-suc-le-suc h) in
-    rw (pdi-reads w k n b bs (omega arith) (a .1) s)
+    let r = data-range b (and-left (isData b) (allData bs) a) in
+    let s : act (pick (ltb b 64) (Opcode b) (Data b)) (w .session .drawing) ≡ Draw d qs = rw (le-ltb b 64 (r .0), e) m in
+    let i = data-finished t n (afterByte w d) (pdi-after w k d) refl (and-right (isData b) (allData bs) a) (le-of-suc-le-suc h) in
+    rw (pdi-reads w k n b bs (omega arith) (r .1) s)
     record {
       answer = i .answer;
       drawing = i .drawing;
@@ -84,10 +87,12 @@ data-finished (more {n = d} {b = b} {bs = bs} {qs = qs} {rs = rs} m t) (suc n) w
 
 -- and the budget that it needs
 pub data-budget : {e : Drawing} {bs : List ℕ} {d : Drawing} {rs : List Record} → DataRun e bs d rs
-    → (n : ℕ) (w : State) → ReadsPdi w → w .session .drawing ≡ e → AllData bs → reading Always n w bs .answer ≡ Done → length bs ≤ n
+    → (n : ℕ) (w : State) → ReadsPdi w → w .session .drawing ≡ e → allData bs ≡ true → reading Always n w bs .answer ≡ Done → length bs ≤ n
+unfolding allData
 data-budget none n w k e a h = omega arith
 data-budget (more {b = b} {bs = bs} m t) zero w k e a h =
     refused-done (rw (reads-halt Always w refl (budget (Found b (removeSpent w) FromPiece bs) (pdi-found w k b bs) tt)) at h)
 data-budget (more {n = d} {b = b} {bs = bs} {qs = qs} m t) (suc n) w k e a h =
-    let s : act (pick (ltb b 64) (Opcode b) (Data b)) (w .session .drawing) ≡ Draw d qs = rw (le-ltb b 64 (a .0), e) m in
-    suc-le-suc (data-budget t n (afterByte w d) (pdi-after w k d) refl (a .2) (rw (pdi-reads w k n b bs (omega arith) (a .1) s) at h))
+    let r = data-range b (and-left (isData b) (allData bs) a) in
+    let s : act (pick (ltb b 64) (Opcode b) (Data b)) (w .session .drawing) ≡ Draw d qs = rw (le-ltb b 64 (r .0), e) m in
+    suc-le-suc (data-budget t n (afterByte w d) (pdi-after w k d) refl (and-right (isData b) (allData bs) a) (rw (pdi-reads w k n b bs (omega arith) (r .1) s) at h))

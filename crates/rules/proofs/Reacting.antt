@@ -3,7 +3,9 @@ use Rattle.rules.specs.Prelude.{ℕ, _≤_, _<_, _≡_, sym, ap, _∙_, 
 use Rattle.rules.specs.Types.{Class, Column2, Above, Coding, Ignored, Waiting, Nothing}
 use Rattle.rules.specs.Choice.{pick}
 use Rattle.rules.specs.Coding.{wait, setOf, controls, control, graphic, classOf, reactTo, react}
+use Rattle.rules.specs.Operands.{isData}
 use Rattle.rules.proofs.Bools.{pick-yes, pick-no}
+use Rattle.rules.proofs.Spans.{least, most}
 
 -- A byte up to 127 where nothing is waited for
 module _ (b : ℕ) (most : b ≤ 127) (c : Coding) (st : List ℕ) (w : c .waiting ≡ Nothing) where
@@ -31,3 +33,8 @@ module _ (b : ℕ) (most : b ≤ 127) (c : Coding) (st : List ℕ) (w : c .waiti
   unfolding classOf reactTo
   from-controls h =
       by-class (pick-yes _ _ (lt-ltb b 32 h)) ∙ ap (λ (x : Coding). control (getD controls b Ignored) x st b) resting
+
+-- A data byte
+pub data-range : (b : ℕ) → isData b ≡ true → (64 ≤ b) × (b ≤ 127)
+unfolding isData
+data-range b e = (least 64 b 127 e, most 64 b 127 e)

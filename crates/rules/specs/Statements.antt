@@ -124,11 +124,6 @@ pub record ReadsPdi (w : State) : Type 0 where
   pub nothing : w .session .coding .waiting ≡ Nothing
   pub noBody : removeSpent w .session .bodies .depth ≡ 0
 
--- ".. 4/0 to 7/15 is data, .."
-abbrev pub AllData : List ℕ → Type 0
-AllData [] = Unit {0}
-AllData (b ∷ bs) = (64 ≤ b) × (b ≤ 127) × AllData bs
-
 -- SET COLOUR 3/12, and then data
 abbrev pub setColour : State → List ℕ → Reading
 setColour w bs = undivided w (60 ∷ bs)

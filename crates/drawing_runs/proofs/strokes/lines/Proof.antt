@@ -2,8 +2,7 @@ use Rattle.drawing_runs.specs.Prelude.{List, _≡_, refl, sym, _∙_, fa
 use Rattle.records.specs.declared.Head.{Head}
 use Rattle.rules.specs.declared.Point.{Point}
 use Rattle.rules.specs.Numbers.{roomForStep}
-use Rattle.rules.specs.Operands.{point}
-use Rattle.operands.specs.Data.{allData}
+use Rattle.rules.specs.Operands.{point, allData}
 use Rattle.operands.proofs.WholeLaws.{three-told}
 use Rattle.drawing_runs.specs.Strokes.{Lines}
 use Rattle.drawing_runs.proofs.StrokeLaws.{lines-none, lines-on}

@@ -1,6 +1,5 @@
 use Rattle.drawing_runs.specs.Prelude.{sym, _∙_, false, _+_, _-_, _≤_, arith, length, now, needs, not-false}
-use Rattle.rules.specs.Operands.{point}
-use Rattle.operands.specs.Data.{allData}
+use Rattle.rules.specs.Operands.{point, allData}
 use Rattle.operands.proofs.WholeLaws.{three-told}
 use Rattle.drawing_runs.specs.Strokes.{Moves}
 use Rattle.drawing_runs.proofs.StrokeLaws.{moves-none, moves-on}

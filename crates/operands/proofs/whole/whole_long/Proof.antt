@@ -1,6 +1,5 @@
 use Rattle.operands.specs.Prelude.{_≡_, refl, true, _-_, _≤_, take, drop, now, needs}
-use Rattle.rules.specs.Operands.{bitsOf, fromTop, point}
-use Rattle.operands.specs.Data.{allData}
+use Rattle.rules.specs.Operands.{bitsOf, fromTop, point, allData}
 use Rattle.operands.proofs.WholeLaws.{long-more, long-point, long-cut, long-whole}
 use Rattle.operands.proofs.whole.whole_long.Statement.{statement}
 use Rattle.operands.proofs.whole.whole_long.Tie as tie

@@ -1,6 +1,5 @@
 use Rattle.operands.specs.Prelude.{sym, ap, _∙_, false, now, not-true, not-false, needs}
-use Rattle.rules.specs.Operands.{point}
-use Rattle.operands.specs.Data.{allData}
+use Rattle.rules.specs.Operands.{point, allData}
 use Rattle.operands.specs.declared.whole.Whole.the-variants.{Whole as Whole·point}
 use Rattle.operands.proofs.WholeLaws.{three-told, is-cut, is-whole}
 use Rattle.operands.proofs.whole.whole_three.Statement.{statement}
