@@ -90,6 +90,8 @@ pub enum Control {
     Escape,
     /// Closes the open command and writes a record, as do those below.
     Recorded,
+    /// CAN, which ends every running body.
+    Cancel,
     Format(Effector),
     Position(Positioning),
 }
@@ -107,6 +109,7 @@ pub static CONTROLS: [Control; 32] = {
     table[0x19] = Control::SingleShift(2);
     table[0x1D] = Control::SingleShift(3);
     table[ESC as usize] = Control::Escape;
+    table[0x18] = Control::Cancel;
     table[0x08] = Control::Format(Effector::Apb);
     table[0x09] = Control::Format(Effector::Apf);
     table[0x0A] = Control::Format(Effector::Apd);

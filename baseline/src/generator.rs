@@ -1,9 +1,9 @@
 //! Seeded pages that reach every rule of the reader, most of them accepted.
 //!
 //! A page is a list of items: commands, text, characters, shifts, sequences,
-//! definitions, calls. The generator keeps a rough account of the sets in use
-//! so that most items mean what they are meant to; where the account is lost
-//! (after a call that shifts) it designates anew.
+//! definitions, calls, CANs. The generator keeps a rough account of the sets in
+//! use so that most items mean what they are meant to; where the account is
+//! lost (after a call that shifts) it designates anew.
 
 use crate::drawing::MOST_VERTICES;
 use crate::listing::GREATEST_BUDGET;
@@ -31,6 +31,8 @@ const APR: u8 = 0x0D;
 const APH: u8 = 0x1E;
 const APS: u8 = 0x1C;
 const NSR: u8 = 0x1F;
+/// Ends every running body.
+const CAN: u8 = 0x18;
 const EFFECTORS: [u8; 7] = [APB, APF, APD, APU, CS, APR, APH];
 /// What comes after a line that is full.
 const FEEDS: [&[u8]; 12] = [
@@ -54,7 +56,8 @@ const NAMES: usize = 96;
 /// Cells of the store that bodies can take, and bytes of each.
 const CELLS: usize = 255;
 const CELL: usize = 30;
-/// A body calls names of lower levels only, so that no body calls itself.
+/// A body calls names of lower levels only, so that no body calls itself,
+/// except after a CAN, where the call is never read.
 const LEVELS: u8 = 12;
 /// Steps that a call may cost, and that a page may.
 const CALL_STEPS: usize = 2_000;
@@ -148,6 +151,8 @@ enum Item {
     Define,
     DefineMany,
     Chain,
+    Cancel,
+    CancelledChain,
     Call,
     OperandsByMacro,
     PendingAtEnd,
@@ -193,6 +198,8 @@ const EVERYTHING: &[Item] = &[
     Define,
     Define,
     Chain,
+    Cancel,
+    CancelledChain,
     Call,
     Call,
     Call,
@@ -226,6 +233,8 @@ const MACROS: &[Item] = &[
     Define,
     Define,
     Chain,
+    CancelledChain,
+    CancelledChain,
     Call,
     Call,
     Call,
@@ -255,6 +264,7 @@ const CODING: &[Item] = &[
     SingleShift,
     SingleShift,
     DroppedShift,
+    Cancel,
     Characters,
     Characters,
     Accents,
@@ -313,6 +323,7 @@ const TEXT: &[Item] = &[
     Control,
     CloseSequence,
     Define,
+    CancelledChain,
     Call,
     Call,
 ];
@@ -320,12 +331,14 @@ const NOISE: &[Item] = &[
     Noise, Noise, Noise, Noise, Designate, Domain, Command, Define,
 ];
 
-/// A defined body: its length, the names it calls, whether it shifts.
+/// A defined body: its length, the names it calls, whether it shifts, whether
+/// it has a CAN.
 #[derive(Clone, Default)]
 struct Body {
     length: usize,
     calls: Vec<u8>,
     shifts: bool,
+    cancels: bool,
 }
 
 /// What is known of the sets, zero where nothing is.
@@ -415,8 +428,7 @@ impl Generator {
         if self.random.chance(60) {
             self.control();
         } else if self.random.chance(10) {
-            let shift = self.random.pick(&SINGLE_SHIFTS);
-            self.put(shift);
+            self.begun_shift();
         }
     }
 
@@ -453,6 +465,8 @@ impl Generator {
             Define => self.define(),
             DefineMany => self.define_many(),
             Chain => self.chain(),
+            Cancel => self.cancel(),
+            CancelledChain => self.cancelled_chain(),
             Call => self.call_any(),
             OperandsByMacro => self.operands_by_macro(),
             PendingAtEnd => self.pending_at_end(),
@@ -549,6 +563,14 @@ impl Generator {
         self.lock(g);
     }
 
+    /// Puts a set in use that is not in G2, and macros in G2.
+    fn use_beside_macros(&mut self, last: u8) {
+        let g = self.random.pick(&[0, 1, 3]);
+        self.designate(g, last);
+        self.lock(g);
+        self.designate(2, MACRO);
+    }
+
     fn use_pdi(&mut self) {
         if !self.random.chance(4) {
             self.use_set(PDI);
@@ -604,8 +626,7 @@ impl Generator {
             0 => self.idle(),
             1 => self.ignored(),
             2 => {
-                let shift = self.random.pick(&SINGLE_SHIFTS);
-                self.put(shift);
+                self.begun_shift();
                 self.idle();
             }
             3 => {
@@ -812,9 +833,30 @@ impl Generator {
         }
     }
 
-    fn dropped_shift(&mut self) {
+    fn begun_shift(&mut self) {
         let shift = self.random.pick(&SINGLE_SHIFTS);
         self.put(shift);
+    }
+
+    /// ESC, sometimes with bytes of column 2.
+    fn begun_sequence(&mut self) {
+        self.put(ESC);
+        for _ in 0..self.random.below(4) {
+            let byte = self.random.byte(0x20, 0x2F);
+            self.put(byte);
+        }
+    }
+
+    /// A shift or sequence that waits for its next byte.
+    fn waiting(&mut self) {
+        match self.random.chance(40) {
+            true => self.begun_shift(),
+            false => self.begun_sequence(),
+        }
+    }
+
+    fn dropped_shift(&mut self) {
+        self.begun_shift();
         if self.random.chance(20) {
             self.ignored();
         } else {
@@ -826,11 +868,7 @@ impl Generator {
     }
 
     fn dropped_sequence(&mut self) {
-        self.put(ESC);
-        for _ in 0..self.random.below(4) {
-            let byte = self.random.byte(0x20, 0x2F);
-            self.put(byte);
-        }
+        self.begun_sequence();
         self.dropping();
     }
 
@@ -1176,7 +1214,8 @@ impl Generator {
         let read = if names.len() == 1 { inner } else { outer };
         self.bytes.extend(&position[read..]);
         self.sets = UNKNOWN;
-        if control == NSR {
+        // A CAN before the NSR keeps it from being read.
+        if control == NSR && !self.is_cancelling(outermost) {
             self.reset();
         }
     }
@@ -1184,12 +1223,7 @@ impl Generator {
     /// A body that calls another, then has some bytes of a position.
     fn part_of_position(&mut self, callee: Option<u8>, part: &[u8]) {
         match callee {
-            Some(callee) => {
-                self.bytes.extend([SINGLE_SHIFTS[0], callee]);
-                if let Some(body) = &mut self.writing {
-                    body.calls.push(callee);
-                }
-            }
+            Some(callee) => self.call_by_g2(callee),
             None => self.body_items(1),
         }
         self.bytes.extend(part);
@@ -1226,6 +1260,12 @@ impl Generator {
         body.shifts || body.calls.iter().any(|&callee| self.is_shifting(callee))
     }
 
+    /// Whether a call of a name may reach a CAN.
+    fn is_cancelling(&self, name: u8) -> bool {
+        let body = &self.bodies[usize::from(name - 0x20)];
+        body.cancels || body.calls.iter().any(|&callee| self.is_cancelling(callee))
+    }
+
     fn call_any(&mut self) {
         for _ in 0..self.random.pick(&[1, 1, 2, 4]) {
             let name = self.any_name();
@@ -1254,6 +1294,14 @@ impl Generator {
         }
         if shifting {
             self.sets = UNKNOWN;
+        }
+    }
+
+    /// A call in a body whose caller made G2 the macro set.
+    fn call_by_g2(&mut self, name: u8) {
+        self.bytes.extend([SINGLE_SHIFTS[0], name]);
+        if let Some(body) = &mut self.writing {
+            body.calls.push(name);
         }
     }
 
@@ -1291,6 +1339,7 @@ impl Generator {
         bytes.truncate((CELLS - self.cells) * CELL);
         keep_whole(&mut bytes);
         body.length = bytes.len();
+        body.cancels = bytes.contains(&CAN);
         self.cells += bytes.len().div_ceil(CELL);
         self.bodies[index] = body;
         self.bytes.extend_from_slice(&bytes);
@@ -1325,6 +1374,7 @@ impl Generator {
             SingleShift,
             DroppedShift,
             CloseSequence,
+            Cancel,
             Call,
             Call,
             Call,
@@ -1396,39 +1446,117 @@ impl Generator {
 
     fn nest(&mut self, depth: usize) {
         let names = self.ladder(depth);
-        let last_calls = self.random.chance(50);
-        let mut below = None;
-        for &name in &names {
+        self.define_nested(&names, None);
+        self.call_outermost(&names);
+    }
+
+    /// Bodies that each call the one before; the one at `cancelling` has a CAN.
+    fn define_nested(&mut self, names: &[u8], cancelling: Option<usize>) {
+        // How often a body has bytes left when it calls.
+        let left = self.random.pick(&[0, 50, 100]);
+        let mut callee = None;
+        for (at, &name) in names.iter().enumerate() {
+            let called_by_cancelling = cancelling == Some(at + 1);
             self.define_name(name, |body| {
-                if body.random.chance(30) {
-                    let count = body.random.range(0, 5);
-                    body.data(count);
+                body.nested_call(callee);
+                if cancelling == Some(at) {
+                    body.cancel();
+                    body.unread(names);
                 }
-                match below {
-                    Some(callee) => {
-                        body.put(SINGLE_SHIFTS[0]);
-                        body.put(callee);
-                        if let Some(body) = &mut body.writing {
-                            body.calls.push(callee);
-                        }
-                    }
-                    None if body.random.chance(70) => body.data(6),
-                    None => {}
-                }
-                if !last_calls {
+                if body.random.chance(left) {
                     body.data(1);
                 }
+                if called_by_cancelling && body.random.chance(30) {
+                    body.waiting();
+                }
             });
-            below = Some(name);
+            callee = Some(name);
         }
-        self.designate(2, MACRO);
-        if self.random.chance(50) {
-            self.command();
+    }
+
+    /// Some data and a call, or for the innermost body mostly more data.
+    fn nested_call(&mut self, callee: Option<u8>) {
+        if self.random.chance(30) {
+            let count = self.random.range(0, 5);
+            self.data(count);
+        }
+        match callee {
+            Some(callee) => self.call_by_g2(callee),
+            None if self.random.chance(70) => self.data(6),
+            None => {}
+        }
+    }
+
+    /// Calls the outermost of nested bodies, mostly while a command is open or
+    /// characters are read.
+    fn call_outermost(&mut self, names: &[u8]) {
+        let set = self.random.pick(&[PDI, PDI, PDI, PRIMARY, MOSAIC]);
+        self.use_beside_macros(set);
+        if self.random.chance(70) {
+            match set {
+                PDI => self.command(),
+                _ => self.codes(2),
+            }
         }
         if let Some(&outermost) = names.last() {
-            self.put(SINGLE_SHIFTS[0]);
-            self.put(outermost);
+            self.bytes.extend([SINGLE_SHIFTS[0], outermost]);
             self.sets = UNKNOWN;
+        }
+    }
+
+    // CANs.
+
+    /// A CAN, mostly with something before it that it drops or closes.
+    fn cancel(&mut self) {
+        match self.random.below(8) {
+            0..=4 => self.waiting(),
+            5 => self.begun_operand(),
+            6 => self.characters(),
+            _ => {}
+        }
+        self.put(CAN);
+    }
+
+    /// A command whose last operand is mostly begun.
+    fn begun_operand(&mut self) {
+        self.command();
+        let begun = self.random.below(self.multi);
+        self.data(begun);
+    }
+
+    /// Bodies nested up to eight deep that are all left by a CAN, mostly of
+    /// the innermost; called again, their depth counts from 0.
+    fn cancelled_chain(&mut self) {
+        if self.writing.is_some() {
+            return;
+        }
+        let depth = self.random.range(1, 8);
+        let names = self.ladder(depth);
+        let cancelling = match self.random.chance(70) {
+            true => 0,
+            false => self.random.below(names.len()),
+        };
+        self.define_nested(&names, Some(cancelling));
+        for _ in 0..self.random.range(1, 3) {
+            self.call_outermost(&names);
+        }
+    }
+
+    /// What a body has after its CAN: nothing, anything, what would be refused
+    /// if it were read, or a call of one of `names`, the body's own among them.
+    fn unread(&mut self, names: &[u8]) {
+        match self.random.below(5) {
+            0 => self.body_items(2),
+            1 => {
+                let count = self.random.range(1, 40);
+                self.data(count);
+            }
+            2 => self.bytes.extend([APS, 0x20]),
+            3 => {
+                let name = self.random.pick(names);
+                self.bytes.extend([SINGLE_SHIFTS[0], name]);
+            }
+            _ => {}
         }
     }
 
@@ -1464,7 +1592,7 @@ impl Generator {
         self.put(name);
         let next = self
             .random
-            .pick(&[0x46, 0x42, 0x57, 0x7A, 0x6E, 0x24, 0x26, 0x0E, 0x20]);
+            .pick(&[0x46, 0x42, 0x57, 0x7A, 0x6E, 0x24, 0x26, 0x0E, 0x20, CAN]);
         self.put(next);
         self.sets = UNKNOWN;
     }
@@ -1476,7 +1604,8 @@ impl Generator {
         match self.random.range(3, 10) {
             3 => self.refused_byte(),
             4 => {
-                let name = self.random.byte(0x00, 0x1F);
+                let any = self.random.byte(0x00, 0x1F);
+                let name = self.random.pick(&[CAN, any, any, any]);
                 self.escape(&[0x40, name]);
             }
             5 => self.refused_code(),
@@ -1544,7 +1673,7 @@ impl Generator {
         let any = self.random.byte(0x00, 0x3F);
         let byte = self
             .random
-            .pick(&[0x00, 0x18, ESC, APS, 0x3F, any, any, any]);
+            .pick(&[0x00, CAN, ESC, APS, 0x3F, any, any, any]);
         self.put(byte);
     }
 
@@ -1642,6 +1771,7 @@ fn items_of(theme: Theme) -> &'static [Item] {
 mod tests {
     use super::*;
     use crate::listing::listing;
+    use crate::session::tests::depths_of_cancels;
 
     #[test]
     fn the_seed_and_number_decide_the_page() {
@@ -1691,6 +1821,18 @@ mod tests {
             let found = pages.iter().filter(|page| page.lines().any(has)).count();
             assert!(found > 200, "{found} pages with kind {kind}, code {code}");
         }
+    }
+
+    #[test]
+    fn cancels_are_common_at_every_depth() {
+        let mut pages = [0; 9];
+        for number in 0..2000 {
+            let depths = depths_of_cancels(&page(1, number));
+            for (depth, found) in pages.iter_mut().enumerate() {
+                *found += usize::from(depths.contains(&depth));
+            }
+        }
+        assert!(pages.iter().all(|&found| found > 20), "{pages:?}");
     }
 
     #[test]

@@ -26,10 +26,12 @@ pub enum BenchKind {
     Text,
     /// Ten characters at a place and of a size of their own, again and again.
     Captions,
+    /// Calls of bodies nested eight deep, all left by a CAN in the innermost.
+    Cancels,
 }
 
 /// The kinds and their names.
-pub const KINDS: [(&str, BenchKind); 10] = [
+pub const KINDS: [(&str, BenchKind); 11] = [
     ("point-set", BenchKind::PointSet),
     ("line", BenchKind::Line),
     ("characters", BenchKind::Characters),
@@ -40,6 +42,7 @@ pub const KINDS: [(&str, BenchKind); 10] = [
     ("polygons", BenchKind::Polygons),
     ("text", BenchKind::Text),
     ("captions", BenchKind::Captions),
+    ("cancels", BenchKind::Cancels),
 ];
 
 const ESC: u8 = 0x1B;
@@ -48,6 +51,7 @@ const SHIFT_IN: u8 = 0x0F;
 const APD: u8 = 0x0A;
 const APR: u8 = 0x0D;
 const APH: u8 = 0x1E;
+const CAN: u8 = 0x18;
 const SINGLE_SHIFT: u8 = 0x19;
 const MACRO_TO_G0: [u8; 3] = [ESC, 0x28, 0x7A];
 const MACRO_TO_G2: [u8; 3] = [ESC, 0x2A, 0x7A];
@@ -69,24 +73,26 @@ fn beginning(kind: BenchKind) -> Vec<u8> {
         BenchKind::Line => vec![SHIFT_OUT, 0x28],
         BenchKind::Characters | BenchKind::Definitions | BenchKind::Captions => Vec::new(),
         BenchKind::Text => vec![APH],
-        BenchKind::Nested => nested_bodies(),
+        BenchKind::Nested => [nested_bodies(&[]), vec![SHIFT_OUT, 0x24]].concat(),
+        BenchKind::Cancels => [nested_bodies(&[CAN]), vec![SHIFT_OUT]].concat(),
         BenchKind::Calls => MACRO_TO_G0.to_vec(),
         BenchKind::Mixed | BenchKind::Polygons => vec![SHIFT_OUT],
     }
 }
 
-/// Names 2/1 to 2/8: each body has two operands and calls the one before.
-fn nested_bodies() -> Vec<u8> {
+/// Names 2/1 to 2/8: each body has two operands, and between them a call of the
+/// one before; the first body has `innermost` there.
+fn nested_bodies(innermost: &[u8]) -> Vec<u8> {
     let mut page = MACRO_TO_G2.to_vec();
     for name in 0x21..=0x28 {
         page.extend([ESC, 0x40, name, 0x41, 0x50, 0x48]);
-        if name > 0x21 {
-            page.extend([SINGLE_SHIFT, name - 1]);
+        match name {
+            0x21 => page.extend(innermost),
+            _ => page.extend([SINGLE_SHIFT, name - 1]),
         }
         page.extend([0x42, 0x60, 0x44]);
         page.extend(END_DEFINITION);
     }
-    page.extend([SHIFT_OUT, 0x24]);
     page
 }
 
@@ -95,6 +101,7 @@ fn item(kind: BenchKind, random: &mut Random, page: &mut Vec<u8>) {
         BenchKind::PointSet | BenchKind::Line => data(3, random, page),
         BenchKind::Characters => page.push(random.byte(0x20, 0x7E)),
         BenchKind::Nested => page.extend([SINGLE_SHIFT, 0x28]),
+        BenchKind::Cancels => page.extend([0x24, SINGLE_SHIFT, 0x28]),
         BenchKind::Calls => page.push(random.byte(0x20, 0x7F)),
         BenchKind::Definitions => {
             page.extend([ESC, 0x40, random.byte(0x20, 0x5F)]);

@@ -33,6 +33,8 @@ enum Pause {
     Call(u8),
     /// A definition was opened.
     Define,
+    /// A CAN was read, which ends every running body.
+    Cancel,
 }
 
 /// A page being read.
@@ -258,13 +260,17 @@ impl Session {
         Ok(())
     }
 
-    /// Puts a called body on the stack; its name was read in the last step,
-    /// which has tested the depth.
+    /// Puts a called body on the stack, its name read in the last step, which
+    /// has tested the depth; or leaves all bodies after a CAN.
     #[inline]
     fn after(&mut self, pause: Pause) {
-        if let Pause::Call(cell) = pause {
-            self.stack[self.depth] = Place { cell, read: 0 };
-            self.depth += 1;
+        match pause {
+            Pause::Go | Pause::Define => {}
+            Pause::Call(cell) => {
+                self.stack[self.depth] = Place { cell, read: 0 };
+                self.depth += 1;
+            }
+            Pause::Cancel => self.depth = 0,
         }
     }
 
@@ -309,12 +315,17 @@ impl Session {
         }
         let byte = input[0];
         let mut coding = Coding::Plain;
+        let mut pause = Pause::Go;
         match CONTROLS[usize::from(byte & 31)] {
             Control::Nothing => {}
             Control::LockingShift(g) => self.in_use = g,
             Control::SingleShift(g) => coding = Coding::Shifted(g),
             Control::Escape => coding = Coding::Escape,
             Control::Recorded => self.recorded(byte, output)?,
+            Control::Cancel => {
+                self.recorded(byte, output)?;
+                pause = Pause::Cancel;
+            }
             Control::Format(effector) => {
                 self.recorded(byte, output)?;
                 self.drawing.format(effector);
@@ -327,7 +338,7 @@ impl Session {
         }
         self.coding = coding;
         *input = &input[1..];
-        Ok(Pause::Go)
+        Ok(pause)
     }
 
     /// Closes the open command and writes the record of a control.
@@ -558,5 +569,56 @@ fn unread(number: Number) -> Answer {
         number,
         consumed: 0,
         written: 0,
+    }
+}
+
+#[cfg(test)]
+pub(crate) mod tests {
+    use super::*;
+    use crate::{RECORD, ROOM, STORE};
+
+    const CAN: u8 = 0x18;
+
+    /// The depths at which a page's CANs are carried out, found by reading it
+    /// one step at a time.
+    pub(crate) fn depths_of_cancels(page: &[u8]) -> Vec<usize> {
+        let mut store = [0; STORE];
+        let (mut session, _) = Session::open(&mut store, 0);
+        let mut output = [0; ROOM];
+        let mut rest = page;
+        let mut depths = Vec::new();
+        loop {
+            session.status = Status::Running;
+            session.budget += 1;
+            session.remove_spent(store::cells(&store).expect("a store of the right size"));
+            let depth = session.depth;
+            let answer = session.feed(&mut store, rest, &mut output);
+            rest = answer.rest(rest);
+            let (records, _) = output[..answer.written].as_chunks::<RECORD>();
+            if records.last().is_some_and(is_cancel) {
+                depths.push(depth);
+            }
+            match answer.number {
+                Number::Full | Number::BudgetUsed => {}
+                _ => return depths,
+            }
+        }
+    }
+
+    fn is_cancel(record: &[u8; RECORD]) -> bool {
+        record[0] == Kind::Control as u8 && record[7] == CAN
+    }
+
+    #[test]
+    fn no_can_is_read_in_a_body_left() {
+        // The first body begins with a CAN; each other calls the one before.
+        let mut page = vec![27, 42, 122, 27, 64, 33, CAN, CAN, 27, 69];
+        for name in 33..=40 {
+            page.extend([25, name, 25, name]);
+            page.extend([27, 64, name + 1, 25, name, CAN, 27, 69]);
+        }
+        page.push(CAN);
+        let expected: Vec<usize> = (1..=8).flat_map(|depth| [depth, depth]).collect();
+        assert_eq!(depths_of_cancels(&page), [&expected[..], &[0]].concat());
     }
 }

@@ -100,6 +100,109 @@ fn macro_called() {
     assert_eq!(lines(&page), [DOT, "end 0 20"]);
 }
 
+/// The record of a CAN before anything is drawn or written.
+const CANCEL: &str = "7 0 0 255 255 255 0 24 0 0 0 0 0 0 0 0";
+
+/// A page that defines a name and makes G2 the macro set.
+fn defined(name: u8, body: &[u8]) -> Vec<u8> {
+    [&[27, 64, name], body, &[27, 69, 27, 42, 122]].concat()
+}
+
+#[test]
+fn can_leaves_the_rest_of_a_body() {
+    // The page goes on with a dot, whatever the body would go on with.
+    let dot = [14, 38, 81, 64, 64];
+    for left in [&[][..], &[65], &[28, 32], &[25, 33], &[65; 60]] {
+        let body = [&[CAN], left].concat();
+        let page = [&defined(33, &body)[..], &[25, 33], &dot].concat();
+        let end = format!("end 0 {}", page.len() + 1);
+        assert_eq!(lines(&page), [CANCEL, DOT, &end]);
+    }
+}
+
+#[test]
+fn can_leaves_every_body() {
+    // Bodies of which each calls the one before, with bytes left or without.
+    for left in [&[][..], &[65]] {
+        let mut page = defined(33, &[&[CAN], left].concat());
+        for name in 34..=40 {
+            page.extend(defined(name, &[&[25, name - 1], left].concat()));
+        }
+        // The ninth would be too deep if the others still counted.
+        for name in 33..=40 {
+            page.extend([25, name, 25, 40]);
+        }
+        let found = lines(&page);
+        assert_eq!(found[..16], [CANCEL; 16]);
+        assert!(found[16].starts_with("end 0 "));
+    }
+}
+
+#[test]
+fn can_drops_what_waits() {
+    for before in [
+        &[25][..],
+        &[29],
+        &[27],
+        &[27, 40],
+        &[27, 42],
+        &[27, 32],
+        &[27, 40, 40, 33],
+    ] {
+        let dot = [14, 38, 81, 64, 64];
+        let page = [before, &[CAN], &dot].concat();
+        let end = format!("end 0 {}", page.len());
+        assert_eq!(lines(&page), [CANCEL, DOT, &end]);
+        // From a body, and what waits from a body that has ended.
+        let body = [before, &[CAN, 65]].concat();
+        let page = [&defined(33, &body)[..], &[25, 33], &dot].concat();
+        assert_eq!(lines(&page)[..2], [CANCEL, DOT]);
+        let outer = defined(34, &[25, 33, CAN, 65]);
+        let page = [&defined(33, before)[..], &outer, &[25, 34], &dot].concat();
+        assert_eq!(lines(&page)[..2], [CANCEL, DOT]);
+    }
+}
+
+#[test]
+fn can_closes_the_open_command() {
+    // The operand is begun on the page; data after it belong to no command.
+    let page = [&defined(33, &[64, CAN, 73])[..], &[14, 38, 81, 25, 33, 64]].concat();
+    let found = lines(&page);
+    assert_eq!(found[0], DOT);
+    assert!(found[1].starts_with("7 0 0 255 255 255 0 24 1073741824 "));
+    assert_eq!(found.len(), 3);
+}
+
+#[test]
+fn can_is_stored_in_a_definition() {
+    let mut reader = Reader::new(GREATEST_BUDGET);
+    let page = [27, 64, 33, CAN, 27, CAN, 27, 69];
+    assert_eq!(reader.feed(&page, 120), answer(Number::Done, 8, 0));
+    assert_eq!(reader.store[32..37], [0, 3, CAN, 27, CAN]);
+    // It is no name.
+    assert_eq!(last_line(&[27, 64, CAN]), "end 4 2");
+    assert_eq!(last_line(&[27, 64, 33, 27, 64, CAN]), "end 4 5");
+}
+
+#[test]
+fn bodies_left_by_can_are_not_left_at_the_end() {
+    let mut reader = Reader::new(GREATEST_BUDGET);
+    let page = [&defined(33, &[CAN, 65])[..], &[25, 33]].concat();
+    let found = reader.feed(&page, 120);
+    assert_eq!(found, answer(Number::Done, page.len(), 40));
+    assert_eq!(reader.end(0), answer(Number::Done, 0, 0));
+}
+
+#[test]
+fn can_is_refused_with_its_closing() {
+    // Closing would complete vertex 413.
+    let mut page = defined(33, &[CAN, 65]);
+    page.extend([14, 33, 68, 52]);
+    page.resize(page.len() + 2 * 411 + 1, 73);
+    page.extend([25, 33]);
+    assert_eq!(last_line(&page), format!("end 9 {}", page.len()));
+}
+
 struct Reader {
     session: Session,
     store: Vec<u8>,
@@ -339,6 +442,7 @@ const APD: u8 = 10;
 const APU: u8 = 11;
 const CS: u8 = 12;
 const APR: u8 = 13;
+const CAN: u8 = 24;
 const APS: u8 = 28;
 const APH: u8 = 30;
 const NSR: u8 = 31;

@@ -1,11 +1,33 @@
 -- Laws of the stack of bodies.
-use Rattle.bodies.specs.Prelude.{_≡_, refl, sym, ap, _∙_, subst, Bool, true, false, List, ℕ, zero, suc, _+_, _-_, _<_, _≤_, not-suc-le-zero, sub-one, arith, ltb, ltb-true, ltb-false, getD}
+use Rattle.bodies.specs.Prelude.{_≡_, refl, sym, ap, _∙_, subst, Bool, true, false, List, [], _∷_, ℕ, zero, suc, _+_, _-_, _<_, _≤_, not-suc-le-zero, sub-one, arith, ltb, ltb-true, ltb-false, getD}
+use types.Run.{OneOf, miss}
+use denote.Enum.Declared.{tagOf}
+use Rattle.rules.proofs.Action.{the-type as the-action}
+use Rattle.rules.specs.declared.Action.{Action}
+use Rattle.rules.specs.declared.Action.the-variants.{Idle, Close, Control, Cancel, Format, Reset, Position, Character, Opcode, Data}
 use Rattle.rules.specs.declared.Bodies.{Bodies}
 use Rattle.rules.specs.declared.Cursor.{Cursor}
 use Rattle.rules.specs.Choice.{pick}
 use Rattle.rules.specs.Bodies.{bodyAt, hasLeft, depthLeft}
+use Rattle.rules.specs.Step.{bodiesAfter}
 use Rattle.rules.proofs.Bools.{pick-yes, pick-no}
 use Rattle.bodies.specs.Calls.{NamesEmpty, CallsEmpty}
+
+-- Actions: CAN's alone leaves the bodies
+abbrev keeping : List ℕ
+keeping = 0 ∷ 1 ∷ 2 ∷ 4 ∷ 5 ∷ 6 ∷ 7 ∷ 8 ∷ 9 ∷ []
+
+pub others-keep : (a : Action) (y : Bodies) → OneOf keeping (tagOf the-action a) → y ≡ bodiesAfter a y
+others-keep Idle y h = refl
+others-keep Close y h = refl
+others-keep (Control b) y h = refl
+others-keep (Cancel b) y h = absurd (miss keeping 3 tt h)
+others-keep (Format f b) y h = refl
+others-keep (Reset b) y h = refl
+others-keep (Position x r c) y h = refl
+others-keep (Character x b) y h = refl
+others-keep (Opcode o) y h = refl
+others-keep (Data b) y h = refl
 
 -- Removal: no body is left, the innermost has bytes left, it has none
 module _ (st : List ℕ) (y : Bodies) where

@@ -1,6 +1,7 @@
 // The stack of running macro bodies, outermost first, lent as two arrays beside the depth.
 pub mod calls;
 
+use rules::Action;
 use rules::Cursor;
 use rules::Read;
 use store::cursors::has_left;
@@ -10,7 +11,7 @@ ghost use Prim.Native.Nat.{ℕ, _-_, _<_, _≤_};
 ghost use lib.ListN.{length, set};
 ghost use Rattle.rules.specs.Bodies.{bodyAt, depthLeft, bytesLeft, readBody};
 ghost use Rattle.store.specs.Lent.{Sized};
-ghost use Rattle.bodies.specs.Stack.{bodiesOf};
+ghost use Rattle.bodies.specs.Stack.{bodiesOf, DepthAfter};
 
 pub fn body_at(cells: &[u8; 8], places: &[u8; 8], index: u8) -> Cursor
     requires { ⌜ index < 8 ⌝ }
@@ -53,6 +54,16 @@ pub fn innermost(store: &[u8], cells: &[u8; 8], places: &[u8; 8], depth: u8) -> 
     ensures { λ r. ⌜ r ≡ readBody (now (store .entry)) (bodyAt (bodiesOf depth (now (cells .entry)) (now (places .entry))) (depth - 1)) ⌝ }
 {
     read_body(store, body_at(cells, places, depth - 1))
+}
+
+// The depth after an action, which keeps the bodies or leaves them all.
+pub fn depth_after(action: Action, depth: u8) -> u8
+    ensures { λ r. ⌜ DepthAfter action depth r ⌝ }
+{
+    match action {
+        Action::Cancel(_) => 0,
+        _ => depth,
+    }
 }
 
 // The body at `index` is read on at the cursor: the innermost after a byte of it, or the next one where a call begins.

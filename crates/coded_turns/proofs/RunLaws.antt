@@ -1,7 +1,7 @@
 -- Runs of bytes as walks
 use Rattle.coded_turns.specs.Prelude.{ℕ, zero, suc, _+_, _-_, _≤_, _<_, add-zero, add-suc, arith, _≡_, refl, sym, ap, _∙_, subst, Bool, true, false, List, [], _∷_, length, drop, getD, set, drop-cons, getD-set-same, set-getD, ltb, lt-ltb, le-ltb}
 use Rattle.rules.specs.declared.Action.{Action}
-use Rattle.rules.specs.declared.Action.the-variants.{Idle as Idle·action}
+use Rattle.rules.specs.declared.Action.the-variants.{Idle as Idle·action, Cancel}
 use Rattle.rules.specs.declared.Bodies.{Bodies}
 use Rattle.rules.specs.declared.Class.the-variants.{Column2, Above}
 use Rattle.rules.specs.declared.Coding.{Coding}
@@ -15,9 +15,9 @@ use Rattle.rules.specs.declared.Set.the-variants.{Macro}
 use Rattle.rules.specs.declared.Status.the-variants.{Running}
 use Rattle.rules.specs.declared.Waiting.{Waiting}
 use Rattle.rules.specs.declared.Waiting.the-variants.{Nothing}
-use Rattle.rules.specs.Numbers.{roomForStep}
+use Rattle.rules.specs.Numbers.{can, roomForStep}
 use Rattle.rules.specs.Choice.{pick}
-use Rattle.rules.specs.Bodies.{bodyAt, hasLeft, depthLeft, unspent}
+use Rattle.rules.specs.Bodies.{bodyAt, hasLeft, depthLeft, unspent, leaveAll}
 use Rattle.rules.specs.Coding.{React, setOf, inUse, wait, withSets, controls, control, graphic, classOf, reactTo, react, afterEscape}
 use Rattle.rules.specs.Drawing.{Draw, act}
 use Rattle.rules.specs.Record.{bytesOfAll}
@@ -25,6 +25,7 @@ use Rattle.rules.specs.Reading.{consumedBy}
 use Rattle.rules.specs.Store.{firstOf}
 use Rattle.rules.specs.Turn.{Takes, onMove, onSought, turn}
 use Rattle.rules.specs.Step.{State, stateOf, removeSpent, Source, FromBody, FromPiece, Found, fromBody, seekAt, seek, Goes, onOutcome, call, onReaction, opensInside, interpret}
+use Rattle.rules.proofs.Reacting.{from-controls}
 use Rattle.records.proofs.Writes.{overwrite-none}
 use Rattle.store.specs.Stretch.{onBy, Gives}
 use Rattle.bodies.specs.Stack.{bodiesOf}
@@ -81,7 +82,15 @@ acts-goes : (budget steps : ℕ) (y : Bodies) (c : Coding) (d e : Drawing) (st :
     → interpret (stateOf budget steps Running y c d st) s b ≡ Goes (stateOf budget (suc steps) Running y c e st) rs
 unfolding interpret onReaction onOutcome
 acts-goes budget steps y c d e st s b a rs h f g =
-    rw (inside-not s (c .waiting) b h, f .asks c st h refl, g)
+    rw (inside-not s (c .waiting) b h, f .asks c st h refl, g, f .keeps y)
+
+-- A 1/8
+can-goes : (budget steps : ℕ) (y : Bodies) (c : Coding) (d e : Drawing) (st : List ℕ) (s : Source) (b : ℕ) (rs : List Record)
+    → c .waiting ≡ Nothing → b ≡ can → act (Cancel can) d ≡ Draw e rs
+    → interpret (stateOf budget steps Running y c d st) s b ≡ Goes (stateOf budget (suc steps) Running (leaveAll y) c e st) rs
+unfolding interpret onReaction onOutcome controls control
+can-goes budget steps y c d e st s b rs h i g =
+    rw (i, inside-not s (c .waiting) can h, from-controls can (omega arith) c st h (omega arith), g)
 
 -- Where a run's bytes are read: byte k of the run is the one sought after k steps, and the bodies and the place of the piece are then these
 pub record Feeds (piece bytes : List ℕ) (from limit : ℕ) (st : List ℕ) (s : Source) (bodies : ℕ → Bodies) (at : ℕ → ℕ) : Type 0 where
@@ -97,15 +106,34 @@ module _ {piece bytes : List ℕ} {from limit : ℕ} {st : List ℕ} {s : Source
     abbrev pub standsAt : ℕ → Carried → Place
     standsAt n y = placed (stateOf budget (steps + n) Running (bodies n) c (y .drawing) st) (at n) (y .at) (y .output)
 
-    pub run-walk : {x y : Carried} {n : ℕ} → Run (setOf (c .sets .used) (c .sets)) bytes from x n y → n ≤ limit → Walk piece (standsAt 0 x) (standsAt n y)
+    -- The next byte drawn, and what it leaves of the bodies
+    byte-walk : {x : Place} (y : Carried) {n : ℕ} {z : Bodies} {e : Drawing} {rs : List Record} → Walk piece x (standsAt n y) → n < limit
+        → y .at + roomForStep ≤ length (y .output)
+        → interpret (stateOf budget (steps + n) Running (bodies (suc n)) c (y .drawing) st) s (getD bytes (from + n) 0)
+        ≡ Goes (stateOf budget (suc (steps + n)) Running z c e st) rs
+        → let k = carry (Draw e rs) (y .drawing) (y .at) (y .output) in
+        Walk piece x (placed (stateOf budget (steps + suc n) Running z c (k .drawing) st) (at (suc n)) (k .at) (k .output))
     unfolding carry
+    byte-walk {x} y {n} a l room i =
+        rw (add-suc steps n, ← f .on n)
+        (step {n = budget - (steps + n) - 1} a (omega arith)
+        (turn-found (length (y .output) - y .at) (budget - (steps + n) - 1) (stateOf budget (steps + n) Running (bodies n) c (y .drawing) st) (drop (at n) piece)
+        (omega arith) (f .sought n l budget (steps + n) c (y .drawing)) i))
+
+    pub run-walk : {x y : Carried} {n : ℕ} → Run (setOf (c .sets .used) (c .sets)) bytes from x n y → n ≤ limit → Walk piece (standsAt 0 x) (standsAt n y)
     run-walk run-none l = none
     run-walk (run-more {n} {y} {a} {e} {rs} r acts room drew) l =
-        rw (add-suc steps n, ← f .on n)
-        (step {n = budget - (steps + n) - 1} (run-walk r (omega arith)) (omega arith)
-        (turn-found (length (y .output) - y .at) (budget - (steps + n) - 1) (stateOf budget (steps + n) Running (bodies n) c (y .drawing) st) (drop (at n) piece)
-        (omega arith) (f .sought n l budget (steps + n) c (y .drawing))
-        (acts-goes budget (steps + n) (bodies (suc n)) c (y .drawing) e st s (getD bytes (from + n) 0) a rs h acts drew)))
+        byte-walk y (run-walk r (omega arith)) l room
+        (acts-goes budget (steps + n) (bodies (suc n)) c (y .drawing) e st s (getD bytes (from + n) 0) a rs h acts drew)
+
+    -- A run and a 1/8 after it, which leaves every body
+    pub cancel-walk : {x y : Carried} {n : ℕ} {e : Drawing} {rs : List Record} → Run (setOf (c .sets .used) (c .sets)) bytes from x n y → n < limit
+        → getD bytes (from + n) 0 ≡ can → y .at + roomForStep ≤ length (y .output) → act (Cancel can) (y .drawing) ≡ Draw e rs
+        → let k = carry (Draw e rs) (y .drawing) (y .at) (y .output) in
+        Walk piece (standsAt 0 x) (placed (stateOf budget (steps + suc n) Running (leaveAll (bodies (suc n))) c (k .drawing) st) (at (suc n)) (k .at) (k .output))
+    cancel-walk {y = y} {n} {e} {rs} r l b room drew =
+        byte-walk y (run-walk r (omega arith)) l room
+        (can-goes budget (steps + n) (bodies (suc n)) c (y .drawing) e st s (getD bytes (from + n) 0) rs h b drew)
 
 -- The piece, without a body
 piece-found : (w v : State) (piece : List ℕ) (at : ℕ) → removeSpent w ≡ v → v .session .bodies .depth ≡ 0 → at < length piece

@@ -42,6 +42,7 @@ pub fn is_marked(byte: u8) -> bool {
     match class_of(byte) {
         Class::Below(control) => match control {
             Control::Recorded => true,
+            Control::Cancels => true,
             Control::Formats(_) => true,
             _ => false,
         },

@@ -8,7 +8,7 @@ use Rattle.rules.specs.declared.Class.{Class}
 use Rattle.rules.specs.declared.Class.the-variants.{Below, Column2, Above}
 use Rattle.rules.specs.declared.Coding.{Coding}
 use Rattle.rules.specs.declared.Control.{Control}
-use Rattle.rules.specs.declared.Control.the-variants.{Ignored, Locks, Shifts, Escapes, Recorded, Formats, Positions}
+use Rattle.rules.specs.declared.Control.the-variants.{Ignored, Locks, Shifts, Escapes, Recorded, Cancels, Formats, Positions}
 use Rattle.rules.specs.declared.Definition.{Definition}
 use Rattle.rules.specs.declared.Designated.{Designated}
 use Rattle.rules.specs.declared.Designated.the-variants.{Names, Unassigned}
@@ -56,6 +56,7 @@ module _ (c : Coding) (st : List ℕ) (b : ℕ) where
   control-told (Shifts s) = inl (refl, refl)
   control-told Escapes = inl (refl, refl)
   control-told Recorded = inl (refl, refl)
+  control-told Cancels = inl (refl, refl)
   control-told (Formats f) = inl (refl, refl)
   control-told (Positions x) = inl (refl, refl)
 

@@ -6,7 +6,7 @@ use Rattle.rules.proofs.Action.{the-type as the-action}
 use Rattle.rules.proofs.Bools.{true-false, false-true}
 use Rattle.rules.proofs.CodingRanges.{ReactionFits, react-fits}
 use Rattle.rules.specs.declared.Action.{Action}
-use Rattle.rules.specs.declared.Action.the-variants.{Idle as Idle·action, Close, Control, Format, Reset, Position, Character, Opcode, Data}
+use Rattle.rules.specs.declared.Action.the-variants.{Idle as Idle·action, Close, Control, Cancel, Format, Reset, Position, Character, Opcode, Data}
 use Rattle.rules.specs.declared.Coding.{Coding}
 use Rattle.rules.specs.declared.Sets.{Sets}
 use Rattle.rules.specs.declared.Waiting.{Waiting}
@@ -58,13 +58,14 @@ module _ (s : Sets) where
 
 -- Which actions and effects are idle
 abbrev not-idle : List ℕ
-not-idle = 1 ∷ 2 ∷ 3 ∷ 4 ∷ 5 ∷ 6 ∷ 7 ∷ 8 ∷ []
+not-idle = 1 ∷ 2 ∷ 3 ∷ 4 ∷ 5 ∷ 6 ∷ 7 ∷ 8 ∷ 9 ∷ []
 
 pub others-act : (a : Action) → OneOf not-idle (tagOf the-action a) → false ≡ idleAction a
 unfolding idleAction
 others-act Idle·action h = absurd (miss not-idle 0 tt h)
 others-act Close h = refl
 others-act (Control b) h = refl
+others-act (Cancel b) h = refl
 others-act (Format f b) h = refl
 others-act (Reset b) h = refl
 others-act (Position x r c) h = refl
@@ -77,6 +78,7 @@ unfolding idleAction
 idle-action Idle·action h = refl
 idle-action Close h = false-true h
 idle-action (Control b) h = false-true h
+idle-action (Cancel b) h = false-true h
 idle-action (Format f b) h = false-true h
 idle-action (Reset b) h = false-true h
 idle-action (Position x r c) h = false-true h

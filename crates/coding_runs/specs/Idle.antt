@@ -1,7 +1,7 @@
 -- Idle bytes: those that ask nothing of drawing and call no macro, one after the other
 use Rattle.coding_runs.specs.Prelude.{ℕ, Bool, true, false, List, _≡_}
 use Rattle.rules.specs.declared.Action.{Action}
-use Rattle.rules.specs.declared.Action.the-variants.{Idle as Idle·action, Close, Control, Format, Reset, Position, Character, Opcode, Data}
+use Rattle.rules.specs.declared.Action.the-variants.{Idle as Idle·action, Close, Control, Cancel, Format, Reset, Position, Character, Opcode, Data}
 use Rattle.rules.specs.declared.Coding.{Coding}
 use Rattle.rules.specs.Coding.{React, react}
 use Rattle.store.specs.Each.{Each}
@@ -28,6 +28,7 @@ unfoldable pub idleAction : Action → Bool
 idleAction Idle·action = true
 idleAction Close = false
 idleAction (Control b) = false
+idleAction (Cancel b) = false
 idleAction (Format f b) = false
 idleAction (Reset b) = false
 idleAction (Position x r c) = false

@@ -33,7 +33,7 @@ pub struct Next {
 }
 
 // A control closes the command that the row is of, and has its record.
-pub(crate) fn mark_next(
+pub fn mark_next(
     byte: u8,
     row: Row,
     p: Point,

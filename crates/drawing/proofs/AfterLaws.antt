@@ -5,7 +5,7 @@ use types.Run.{OneOf, miss}
 use denote.Enum.Declared.{tagOf}
 use Rattle.rules.proofs.Action.{the-type as the-action}
 use Rattle.rules.specs.declared.Action.{Action}
-use Rattle.rules.specs.declared.Action.the-variants.{Idle, Close, Control, Format, Reset, Position, Character, Opcode, Data}
+use Rattle.rules.specs.declared.Action.the-variants.{Idle, Close, Control, Cancel, Format, Reset, Position, Character, Opcode, Data}
 use Rattle.rules.specs.declared.Drawing.{Drawing}
 use Rattle.rules.specs.declared.Record.{Record}
 use Rattle.rules.specs.Record.{bytesOf}
@@ -22,18 +22,19 @@ one-after d e q at out out′ h i w = rw (w, i, h) (sym (carry-one _ e d at out)
 
 -- Actions that ask nothing more
 abbrev others : List ℕ
-others = 0 ∷ 1 ∷ 5 ∷ 8 ∷ []
+others = 0 ∷ 1 ∷ 6 ∷ 9 ∷ []
 
 after-none : (a : Action) (d : Drawing) → OneOf others (tagOf the-action a) → afterClosing a d ≡ Draw d []
 unfolding afterClosing
 after-none Idle d k = refl
 after-none Close d k = refl
 after-none (Control b) d k = absurd (miss others 2 tt k)
-after-none (Format f b) d k = absurd (miss others 3 tt k)
-after-none (Reset b) d k = absurd (miss others 4 tt k)
+after-none (Cancel b) d k = absurd (miss others 3 tt k)
+after-none (Format f b) d k = absurd (miss others 4 tt k)
+after-none (Reset b) d k = absurd (miss others 5 tt k)
 after-none (Position x r c) d k = refl
-after-none (Character x b) d k = absurd (miss others 6 tt k)
-after-none (Opcode o) d k = absurd (miss others 7 tt k)
+after-none (Character x b) d k = absurd (miss others 7 tt k)
+after-none (Opcode o) d k = absurd (miss others 8 tt k)
 after-none (Data b) d k = refl
 
 pub none-after : (a : Action) (d : Drawing) (at : ℕ) (out : List ℕ) → OneOf others (tagOf the-action a)
@@ -46,6 +47,7 @@ unfolding afterClosing openCommand
 after-draws Idle d = tt
 after-draws Close d = tt
 after-draws (Control b) d = tt
+after-draws (Cancel b) d = tt
 after-draws (Format f b) d = tt
 after-draws (Reset b) d = tt
 after-draws (Position x r c) d = tt

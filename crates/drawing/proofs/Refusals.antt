@@ -1,7 +1,7 @@
 -- The drawing rules refuse with TooManyVertices only; closing refuses before it finishes.
 use Rattle.drawing.proofs.Prelude.{_≡_, refl, Bool, List, ℕ, suc, ltb, eqb}
 use Rattle.rules.specs.declared.Action.{Action}
-use Rattle.rules.specs.declared.Action.the-variants.{Idle, Close, Control, Format, Reset, Position, Character, Opcode, Data}
+use Rattle.rules.specs.declared.Action.the-variants.{Idle, Close, Control, Cancel, Format, Reset, Position, Character, Opcode, Data}
 use Rattle.rules.specs.declared.Mode.{Mode}
 use Rattle.rules.specs.declared.Mode.the-variants.{Direct, Mapped, TwoColour}
 use Rattle.rules.specs.declared.Point.{Point}
@@ -96,6 +96,7 @@ unfolding act openCommand
 act-vertices Idle d = tt
 act-vertices Close d = close-vertices d
 act-vertices (Control b) d = then-vertices (close d) _ (close-vertices d) (λ e. tt)
+act-vertices (Cancel b) d = then-vertices (close d) _ (close-vertices d) (λ e. tt)
 act-vertices (Format f b) d = then-vertices (close d) _ (close-vertices d) (λ e. tt)
 act-vertices (Reset b) d = then-vertices (close d) _ (close-vertices d) (λ e. tt)
 act-vertices (Position x r c) d = tt

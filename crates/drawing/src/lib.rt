@@ -18,6 +18,7 @@ use rules::Action;
 use rules::Command;
 use rules::Look;
 use rules::Pen;
+use rules::Point;
 use rules::RECORD_SIZE;
 use settings::reset_text;
 use text::cursor::with_text;
@@ -26,8 +27,10 @@ ghost use mathlib.Core.Bool.{true};
 ghost use Prim.Native.Nat.{_+_, _≤_};
 ghost use lib.ListN.{length};
 ghost use Rattle.rules.specs.Numbers.{recordSize, roomForStep};
+ghost use Rattle.rules.specs.Record.{mark, bytesOf};
 ghost use Rattle.rules.specs.Drawing.{andThen, close, resetLook, act};
 ghost use Rattle.rules.specs.Ranges.{drawingFits};
+ghost use Rattle.records.specs.Bytes.{overwrite};
 ghost use Rattle.figures.specs.Carried.{carryOut, drawingOf, carriedOf, DrawsBy};
 ghost use Rattle.drawing.specs.After.{afterClosing};
 
@@ -37,6 +40,15 @@ fn reset_look(look: Look) -> Look
 {
     let old = look.colour;
     fresh_look(old.foreground, old.background)
+}
+
+// The record of a control at the drawing point, and the place after it.
+fn put_control(byte: u8, point: Point, look: Look, out: &mut [u8], at: usize) -> usize
+    requires { ⌜ at + recordSize ≤ length (now out) ⌝ }
+    ensures { λ r. ⌜ (r ≡ at + recordSize) × (now (out .exit) ≡ overwrite at (bytesOf (mark look 7 0 byte point)) (now (out .entry))) ⌝ }
+{
+    put_record(out, at, mark(look, 7, 0, byte, point));
+    at + RECORD_SIZE
 }
 
 // What an action does once the open command is closed: a control has a record of the drawing point and a character one of the
@@ -57,18 +69,14 @@ fn after_closing(
     let mut look = look;
     let mut at = at;
     match action {
-        Action::Control(byte) => {
-            put_record(out, at, mark(look, 7, 0, byte, pen.point));
-            at = at + RECORD_SIZE;
-        }
+        Action::Control(byte) => at = put_control(byte, pen.point, look, out, at),
+        Action::Cancel(byte) => at = put_control(byte, pen.point, look, out, at),
         Action::Format(effector, byte) => {
-            put_record(out, at, mark(look, 7, 0, byte, pen.point));
-            at = at + RECORD_SIZE;
+            at = put_control(byte, pen.point, look, out, at);
             pen = format(effector, pen);
         }
         Action::Reset(byte) => {
-            put_record(out, at, mark(look, 7, 0, byte, pen.point));
-            at = at + RECORD_SIZE;
+            at = put_control(byte, pen.point, look, out, at);
             pen = with_text(reset_text(pen.text), pen);
             look = reset_look(look);
         }
@@ -155,6 +163,7 @@ pub fn act(
         }
         Action::Close => close_and(action, pen, command, look, map, out, at),
         Action::Control(_byte) => close_and(action, pen, command, look, map, out, at),
+        Action::Cancel(_byte) => close_and(action, pen, command, look, map, out, at),
         Action::Format(_effector, _byte) => close_and(action, pen, command, look, map, out, at),
         Action::Reset(_byte) => close_and(action, pen, command, look, map, out, at),
         Action::Character(_repertoire, _code) => {

@@ -1,6 +1,7 @@
 -- Runs: bytes of one set, acted on one after the other
 use Rattle.drawing_runs.specs.Prelude.{ℕ, zero, suc, _+_, _≤_, false, List, _≡_, length, getD}
 use Rattle.rules.specs.declared.Action.{Action}
+use Rattle.rules.specs.declared.Bodies.{Bodies}
 use Rattle.rules.specs.declared.Coding.{Coding}
 use Rattle.rules.specs.declared.Command.{Command}
 use Rattle.rules.specs.declared.Drawing.{Drawing}
@@ -12,12 +13,15 @@ use Rattle.rules.specs.declared.Waiting.the-variants.{Nothing}
 use Rattle.rules.specs.Numbers.{roomForStep}
 use Rattle.rules.specs.Coding.{React, setOf, react}
 use Rattle.rules.specs.Drawing.{Draw, act}
+use Rattle.rules.specs.Step.{bodiesAfter}
 use Rattle.figures.specs.Carried.{Carried, carry, drawingOf}
 use Rattle.drawing_runs.specs.declared.Ran.{Ran}
 
--- A byte that asks an action of drawing and changes nothing else, wherever nothing is waited for and the set is in use
+-- A byte that asks an action of drawing and changes nothing else, wherever nothing is waited for and the set is in use; the action
+-- leaves no body
 pub record ActsAs (s : Set) (b : ℕ) (a : Action) : Type 0 where
   pub asks : (c : Coding) (st : List ℕ) → c .waiting ≡ Nothing → setOf (c .sets .used) (c .sets) ≡ s → react c st b ≡ React c st a
+  pub keeps : (y : Bodies) → bodiesAfter a y ≡ y
 
 -- A drawing state in its parts, at a place of an output
 abbrev pub standing : Pen → Command → Look → List ℕ → ℕ → List ℕ → Carried

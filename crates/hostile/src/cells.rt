@@ -1,10 +1,13 @@
 // Stores whose cells no reading leaves so: counts outside 1 to 30, places past a count, chains that loop.
 use crate::calls::end_case;
 use crate::calls::feed_case;
+use crate::calls::feed_within;
 use crate::sessions::with_body;
+use crate::sessions::with_eight;
 use crate::sessions::with_first;
 use crate::sessions::with_waiting;
 use reader::open::open;
+use rules::CAN;
 use rules::Definition;
 use rules::STORE_SIZE;
 use rules::Waiting;
@@ -66,6 +69,37 @@ pub(crate) fn reading() {
     end_in_body(b"body-count-31", 0, 31, 0);
     end_in_body(b"body-count-0", 0, 0, 0);
     end_in_body(b"body-loop", 1, 1, 1);
+}
+
+// Reads a CAN in the last of eight bodies. The cell of the others has a count that no step could read.
+fn cancel_case(name: &[u8], room: isize) {
+    let mut store = [0u8; STORE_SIZE];
+    let opened = open(&mut store, BUDGET);
+    let session = opened.session;
+    set_cell(&mut store, 1, 0, 2);
+    store[34] = CAN;
+    set_cell(&mut store, 2, 1, 31);
+    let left = feed_within(name, with_eight(session, 2, 1), &mut store, b"A", room);
+    end_case(name, left, &store);
+}
+
+// Reads a CAN of the page over eight bodies that have none left.
+fn cancel_spent() {
+    let mut store = [0u8; STORE_SIZE];
+    let opened = open(&mut store, BUDGET);
+    let session = opened.session;
+    feed_case(
+        b"cancel-spent",
+        with_eight(session, 0, 0),
+        &mut store,
+        &[CAN],
+    );
+}
+
+pub(crate) fn cancelling() {
+    cancel_case(b"cancel-eight", 120);
+    cancel_case(b"cancel-full", 119);
+    cancel_spent();
 }
 
 // Frees the body of 2/1, which starts in cell 1 and goes on in cell 2.

@@ -1,6 +1,6 @@
 // What no honest caller would lend: stores of other sizes, sessions with a field out of range, stores whose chains loop,
 // buffers too small, calls after the end and after a stop. Each case prints the call, its number and its counts.
-// The file stdout is worked out from document 01 by hand.
+// The file stdout is worked out from documents 01 and 02 by hand.
 mod calls;
 mod cells;
 mod sessions;
@@ -201,6 +201,7 @@ fn main() {
     other_fields(session);
     steps_over_budget(session);
     cells::reading();
+    cells::cancelling();
     cells::freeing();
     cells::filling();
     buffers(session);

@@ -68,6 +68,17 @@ pub(crate) fn with_body(session: Session, cell: u8, place: u8) -> Session {
     session
 }
 
+// Eight bodies running, the innermost in a cell of its own.
+pub(crate) fn with_eight(session: Session, others: u8, innermost: u8) -> Session {
+    let mut session = session;
+    let mut bodies = session.bodies;
+    bodies.depth = 8;
+    bodies.cells = [others; 8];
+    bodies.cells[7] = innermost;
+    session.bodies = bodies;
+    session
+}
+
 pub(crate) fn with_waiting(session: Session, waiting: Waiting) -> Session {
     let coding = session.coding;
     let sets = coding.sets;

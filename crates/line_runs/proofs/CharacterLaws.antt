@@ -62,7 +62,7 @@ prints Drcs b h = refl
 acts : (x : Repertoire) (b : ℕ) → 32 ≤ b → b ≤ lastCharacter x → ActsAs (Characters x) b (Character x b)
 unfolding graphic
 acts x b h g =
-    graphic-acts (Characters x) b (Character x b) h (omega (arith, last-least x)) (λ c st. ap (React c st) (prints x b g))
+    graphic-acts (Characters x) b (Character x b) h (omega (arith, last-least x)) (λ c st. ap (React c st) (prints x b g)) (λ y. refl)
 
 -- No character looks at a begun operand
 advance-rested : (p : Pen) → advance (rested p) ≡ rested (advance p)

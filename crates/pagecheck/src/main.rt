@@ -1,6 +1,7 @@
 // Reads stored pages, each undivided and cut into pieces of several sizes, with output buffers of several sizes, then cut in two at
 // each of its places, and compares the text with the stored listing. The file `index` names the groups, a folder each, and `index`
-// in a folder its pages. A line is printed for each group, one for all, and one for each reading that differs: page, cut and buffer.
+// in a folder its pages; those of `expansion` are expansions of other pages, listed with the records of these. A line is printed for each
+// group, one for all, and one for each reading that differs: page, cut and buffer.
 use demands::draw_cuts;
 use libc::STDOUT_FILENO;
 use listing::least;

@@ -31,7 +31,7 @@ abbrev pub stepsTo : ℕ → ℕ → Sets → Waiting → Progress → Progress
 stepsTo at depth s x p =
     record { at = at; written = p .written; steps = p .steps + 1; depth = depth; sets = s; waiting = x }
 
--- With spent bodies removed
+-- With so many bodies running
 abbrev pub atDepth : ℕ → Progress → Progress
 atDepth d p =
     record {

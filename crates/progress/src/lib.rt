@@ -30,7 +30,7 @@ pub struct Reached {
     pub look: Look,
 }
 
-// With spent bodies removed.
+// With so many bodies running: spent ones are removed, or all are left.
 pub fn at_depth(progress: Progress, depth: u8) -> Progress
     ensures { λ r. ⌜ r ≡ atDepth depth progress ⌝ }
 {

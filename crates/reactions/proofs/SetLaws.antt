@@ -6,7 +6,7 @@ use Rattle.rules.proofs.Action.{the-type as the-action}
 use Rattle.reactions.proofs.Effect.{the-type as the-effect}
 use Rattle.rules.proofs.Bools.{pick-all}
 use Rattle.rules.specs.declared.Action.{Action}
-use Rattle.rules.specs.declared.Action.the-variants.{Idle, Close, Control, Format, Reset, Position, Character, Opcode, Data}
+use Rattle.rules.specs.declared.Action.the-variants.{Idle, Close, Control, Cancel, Format, Reset, Position, Character, Opcode, Data}
 use Rattle.rules.specs.declared.Control.the-variants.{Positions}
 use Rattle.rules.specs.declared.Positioning.{Positioning}
 use Rattle.rules.specs.declared.Positioning.the-variants.{Aps, Nsr}
@@ -22,14 +22,15 @@ use Rattle.reactions.specs.declared.Effect.the-variants.{Refuses, Calls,
 
 -- The sets after an action: only that of NSR resets them
 abbrev no-reset : List ℕ
-no-reset = 0 ∷ 1 ∷ 2 ∷ 3 ∷ 5 ∷ 6 ∷ 7 ∷ 8 ∷ []
+no-reset = 0 ∷ 1 ∷ 2 ∷ 3 ∷ 4 ∷ 6 ∷ 7 ∷ 8 ∷ 9 ∷ []
 
 pub others-keep : (a : Action) (s : Sets) → OneOf no-reset (tagOf the-action a) → s ≡ resetSets a s
 others-keep Idle s h = refl
 others-keep Close s h = refl
 others-keep (Control b) s h = refl
+others-keep (Cancel b) s h = refl
 others-keep (Format f b) s h = refl
-others-keep (Reset b) s h = absurd (miss no-reset 4 tt h)
+others-keep (Reset b) s h = absurd (miss no-reset 5 tt h)
 others-keep (Position x r c) s h = refl
 others-keep (Character x b) s h = refl
 others-keep (Opcode b) s h = refl

@@ -7,7 +7,7 @@ use Rattle.rules.specs.declared.Waiting.the-variants.{Nothing}
 use Rattle.rules.specs.declared.Class.{Class}
 use Rattle.rules.specs.declared.Class.the-variants.{Below, Column2, Above}
 use Rattle.rules.specs.declared.Action.{Action}
-use Rattle.rules.specs.declared.Action.the-variants.{Idle, Close, Control, Format, Reset, Position, Character, Opcode, Data}
+use Rattle.rules.specs.declared.Action.the-variants.{Idle, Close, Control, Cancel, Format, Reset, Position, Character, Opcode, Data}
 use Rattle.rules.specs.declared.Coding.{Coding}
 use Rattle.rules.specs.Coding.{Reaction, Refuse, Call, React, inUse, designate, wait, freshSets, control, graphic}
 use Rattle.reactions.specs.declared.Effect.{Effect}
@@ -31,6 +31,7 @@ abbrev pub resetSets : Action → Sets → Sets
 resetSets Idle s = s
 resetSets Close s = s
 resetSets (Control b) s = s
+resetSets (Cancel b) s = s
 resetSets (Format f b) s = s
 resetSets (Reset b) s = freshSets
 resetSets (Position x r c) s = s

@@ -28,6 +28,7 @@ pub(crate) fn control(k: Control, byte: u8) -> Reacted
         Control::Shifts(shift) => wait_for(Waiting::Shifted(shift)),
         Control::Escapes => wait_for(Waiting::Escape),
         Control::Recorded => act(Action::Control(byte)),
+        Control::Cancels => act(Action::Cancel(byte)),
         Control::Formats(effector) => act(Action::Format(effector, byte)),
         Control::Positions(positioning) => position(positioning, byte),
     }

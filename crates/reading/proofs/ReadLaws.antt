@@ -89,10 +89,6 @@ module _ (w₀ : State) (budget : ℕ) (piece out₀ : List ℕ) (p : Progress) 
       due : DrawDueBy (Draws a) p (r .progress)
       due = drawn-due r p a g u
 
-      -- The step keeps the depth
-      read : bodiesOf (r .progress .depth) cells₂ places₂ ≡ readOnIf (m .«too_many_vertices») (r .progress .depth) (r .cursor) (bodiesOf (r .progress .depth) cells₁ places₁)
-      read = rw (ap (λ (z : Progress). z .depth) (due .0)) h
-
       pub loop-draws : m .«too_many_vertices» ≡ false → (x : Reached) → x ≡ drawnTo m (r .progress)
           → (t u : Text) → t ≡ textIf (m .«too_many_vertices») u (m .pen .text)
           → (Kept w₀ piece out₀ (stateAt budget (x .progress) cells₂ places₂ firsts₁ (drawingOf (penOf t (x .tip)) (x .command) (x .look) map₁) st₁) (x .progress .at) (x .progress .written) out₁)
@@ -101,14 +97,14 @@ module _ (w₀ : State) (budget : ℕ) (piece out₀ : List ℕ) (p : Progress) 
       loop-draws n x k t u v =
           rw (k, v, n)
           (next (record { course = GoesOn; state = stateAt budget (writtenTo (m .at) (r .progress)) cells₂ places₂ firsts₁ (drawingOf (m .pen) (m .command) (m .look) map₁) st₁; consumed = r .progress .at; written = m .at; output = out₁ })
-          (rw g (draw-goes budget p (r .progress) (due .0) cells₁ places₁ firsts₁ d st₁ out (r .cursor) a m map₁ out₁ f cells₂ places₂ read n)))
+          (rw g (draw-goes budget p (r .progress) (due .0) cells₁ places₁ firsts₁ d st₁ out (r .cursor) a (due .1) m map₁ out₁ f cells₂ places₂ h n)))
 
       pub loop-refused : m .«too_many_vertices» ≡ true → (pen : Pen) (command : Command) (look : Look) (map : List ℕ) → d ≡ drawingOf pen command look map
           → record { answer = Refused TooManyVertices; state = answered (Refused TooManyVertices) (stateAt budget p cells₂ places₂ firsts₁ (drawingOf pen command look map₁) st₁); consumed = p .at; written = p .written; output = out₁ }
           ≡ handed (wholeReading w₀ piece out₀) out₀
       loop-refused n pen command look map k =
           next (record { course = Ends (Refused TooManyVertices); state = answered (Refused TooManyVertices) (stateAt budget p cells₂ places₂ firsts₁ (drawingOf pen command look map₁) st₁); consumed = p .at; written = p .written; output = out₁ })
-          (rw g (draw-refused budget p (r .progress) (due .0) cells₁ places₁ firsts₁ d st₁ out (r .cursor) a m map₁ out₁ f cells₂ places₂ read pen command look map k n))
+          (rw g (draw-refused budget p (r .progress) (due .0) cells₁ places₁ firsts₁ d st₁ out (r .cursor) a (due .1) m map₁ out₁ f cells₂ places₂ h pen command look map k n))
 
 -- The text that is handed over, read as another that is the same
 pub fed-text : (a : Answer) (budget : ℕ) (p : Progress) (cells places firsts : List ℕ) (t u : Text) (x : Tip) (c : Command) (l : Look) (map : List ℕ) → t ≡ u

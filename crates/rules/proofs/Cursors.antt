@@ -1,6 +1,6 @@
 -- The cursor that an act leaves is held where it stands, but while TEXT is open or NSR waits, and its field fits there
 use Rattle.rules.specs.Prelude.{ℕ, zero, suc, _+_, _-_, _%_, _^_, _≤_, arith, _≡_, refl, sym, ap, _∙_, subst, Bool, true, false, not, _||_, List, [], getD, drop, ltb, leb, eqb, eqb-true, leb-true, leb-false, le-leb, ltb-false}
-use Rattle.rules.specs.Types.{Action, Idle, Close, Control·action as Control, Format, Reset, Position, Character, Opcode, Data, Point, Pen, Text, Record}
+use Rattle.rules.specs.Types.{Action, Idle, Close, Control·action as Control, Cancel, Format, Reset, Position, Character, Opcode, Data, Point, Pen, Text, Record}
 use Rattle.rules.specs.Types.{Due, First, Second, Third, Past, Drawing, Row, Mode, Direct, Mapped, TwoColour, Reach, Coordinate}
 use Rattle.rules.specs.Types.{Rotation, Degrees0, Degrees90, Degrees180, Degrees270, Effector, Apb, Apf, Apd, Apu, Cs, Apr, Aph, Positioning, Aps, Nsr, Repertoire}
 use Rattle.rules.specs.Types.{Pattern, A, D, AA, AD, ArcDD, ArcADD, PolygonD, PolygonAD, Domain·pattern, Text·pattern, SelectColour, SetColour, Skipped}
@@ -316,6 +316,7 @@ abbrev pub resets : Action → Bool
 resets Idle = false
 resets Close = false
 resets (Control b) = false
+resets (Cancel b) = false
 resets (Format f b) = false
 resets (Reset b) = true
 resets (Position x r c) = false
@@ -327,6 +328,7 @@ abbrev pub places : Action → Bool
 places Idle = false
 places Close = false
 places (Control b) = false
+places (Cancel b) = false
 places (Format f b) = false
 places (Reset b) = false
 places (Position x r c) = true
@@ -344,6 +346,7 @@ unfolding act openCommand
 act-settled Idle d n h = h
 act-settled Close d n h = drawn-map stays-settled (close d) (close-held d h)
 act-settled (Control b) d n h = marked-settled _ _ d h (λ e k. k)
+act-settled (Cancel b) d n h = marked-settled _ _ d h (λ e k. k)
 act-settled (Format f b) d n h = marked-settled _ _ d h (λ e k. format-stays f (e .pen) k)
 act-settled (Reset b) d n h = true-false n
 act-settled (Position x r c) d n h = stays-settled (withPen (placedBy x r c (d .pen)) d) (place-stays x r c (d .pen))
@@ -358,6 +361,7 @@ unfolding act
 placed-settled Idle d n = true-false (sym n)
 placed-settled Close d n = true-false (sym n)
 placed-settled (Control b) d n = true-false (sym n)
+placed-settled (Cancel b) d n = true-false (sym n)
 placed-settled (Format f b) d n = true-false (sym n)
 placed-settled (Reset b) d n = true-false (sym n)
 placed-settled (Position x r c) d n = stays-settled (withPen (placedBy x r c (d .pen)) d) (place-stays x r c (d .pen))

@@ -11,6 +11,7 @@ pub mod WorkedText
 pub mod WorkedPages
 pub mod WorkedTextPages
 pub mod WorkedColours
+pub mod WorkedCancels
 pub mod WorkedCalls
 pub mod DrawingRanges
 pub mod RecordCount
@@ -28,6 +29,7 @@ pub mod Colours
 pub mod Pending
 pub mod Simulation
 pub mod Expanding
+pub mod Cancelling
 pub mod CallLaws
 pub mod Numbers
 pub mod Feeding

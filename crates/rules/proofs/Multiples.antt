@@ -1,6 +1,6 @@
 -- From a fresh session every place that drawing keeps is a multiple of 256, and so is every coordinate of a record but of kind 8
 use Rattle.rules.specs.Prelude.{ℕ, zero, suc, _+_, _*_, _-_, _%_, _^_, _<_, _≤_, arith, mul-assoc, pow-add, pow-suc, _≡_, refl, sym, ap, _∙_, Bool, true, false, List, [], _∷_, _++_, length, length-append, length-take, length-set, ltb, eqb}
-use Rattle.rules.specs.Types.{Action, Idle, Close, Control·action as Control, Format, Reset, Position, Character, Opcode, Data, Point, Operand, Pen, Text, Look, Record}
+use Rattle.rules.specs.Types.{Action, Idle, Close, Control·action as Control, Cancel, Format, Reset, Position, Character, Opcode, Data, Point, Operand, Pen, Text, Look, Record}
 use Rattle.rules.specs.Types.{Due, Drawing, Row, Mode, Direct, Mapped, TwoColour, Reach, Coordinate}
 use Rattle.rules.specs.Types.{Moving, Together, CursorLeads, PointLeads, Independent, Style, Effector, Apb, Apf, Apd, Apu, Cs, Apr, Aph}
 use Rattle.rules.specs.Types.{Pair, NoPair, Automatic, ReturnSeen, FeedSeen, Positioning, Aps, Nsr, Repertoire}
@@ -491,6 +491,7 @@ unfolding act
 act-grid Idle d g = (g, tt)
 act-grid Close d g = close-grid d g
 act-grid (Control b) d g = marked-grid _ _ d g (control-grid b) (λ e h. h)
+act-grid (Cancel b) d g = marked-grid _ _ d g (control-grid b) (λ e h. h)
 act-grid (Format f b) d g = marked-grid _ _ d g (control-grid b) (λ e h. (format-grid f (e .pen) (h .0), h .1))
 act-grid (Reset b) d g = marked-grid _ _ d g (control-grid b) reset-grid
 act-grid (Position x r c) d g = ((place-grid x r c (d .pen) (g .0), g .1), tt)

@@ -1,15 +1,15 @@
 -- Bytes that are read in PDI from the page: an opcode, and data
 use Rattle.rules.specs.Prelude.{ℕ, zero, suc, _≤_, arith, _≡_, refl, sym, ap, _∙_, true, List, [], _∷_, _++_, length, ltb, le-ltb, le-of-suc-le-suc, suc-le-suc, not-suc-le-zero}
-use Rattle.rules.specs.Types.{Done, Opcode, Data, Drawing, Record, Refusal}
+use Rattle.rules.specs.Types.{Done, Action, Opcode, Data, Bodies, Drawing, Record, Refusal}
 use Rattle.rules.specs.Choice.{pick}
 use Rattle.rules.specs.Operands.{isData, allData}
 use Rattle.rules.specs.Record.{bytesOfAll}
 use Rattle.rules.specs.Coding.{graphic}
 use Rattle.rules.specs.Drawing.{NotDrawn, Draw, act}
-use Rattle.rules.specs.Step.{State, stepped, removeSpent, FromPiece, NothingLeft, Found, seekAt, seek, onOutcome, onReaction, opensInside, interpret}
+use Rattle.rules.specs.Step.{State, stepped, removeSpent, FromPiece, NothingLeft, Found, seekAt, seek, bodiesAfter, onOutcome, onReaction, opensInside, interpret}
 use Rattle.rules.specs.Reading.{Reading, Always, halts, stepThen, reading}
 use Rattle.rules.specs.Statements.{ReadsPdi, drawingLeft}
-use Rattle.rules.proofs.Bools.{and-left, and-right}
+use Rattle.rules.proofs.Bools.{and-left, and-right, pick-all}
 use Rattle.rules.proofs.Reacting.{from-set, data-range}
 use Rattle.rules.proofs.RecordCount.{records-append}
 use Rattle.rules.proofs.Steps.{remove-twice}
@@ -19,6 +19,13 @@ use Rattle.rules.proofs.Readings.{budget, refused, reads-done, reads-ha
 abbrev pub afterByte : State → Drawing → State
 afterByte w d =
     let v = removeSpent w in stepped (v .session .bodies) (v .session .coding) d (v .store) v
+
+-- A byte of the PDI set, as an action; it leaves no body
+abbrev pdiAction : ℕ → Action
+pdiAction b = pick (ltb b 64) (Opcode b) (Data b)
+
+pdi-bodies : (b : ℕ) (y : Bodies) → bodiesAfter (pdiAction b) y ≡ y
+pdi-bodies b y = pick-all (λ a. bodiesAfter a y ≡ y) (ltb b 64) refl refl
 
 module _ (w : State) (k : ReadsPdi w) where
   pub pdi-found : (b : ℕ) (bs : List ℕ) → seek (removeSpent w) (b ∷ bs) ≡ Found b (removeSpent w) FromPiece bs
@@ -31,7 +38,7 @@ module _ (w : State) (k : ReadsPdi w) where
 
   pdi-move : (b : ℕ) → 32 ≤ b → b ≤ 127
       → interpret (removeSpent w) FromPiece b
-      ≡ onOutcome (act (pick (ltb b 64) (Opcode b) (Data b)) (w .session .drawing)) (w .session .coding) (w .store) (removeSpent w)
+      ≡ onOutcome (act (pdiAction b) (w .session .drawing)) (pdiAction b) (w .session .coding) (w .store) (removeSpent w)
   unfolding interpret opensInside onReaction graphic removeSpent
   pdi-move b l h = rw (from-set b h (w .session .coding) (w .store) (k .nothing) l, k .pdi)
 
@@ -45,13 +52,13 @@ module _ (w : State) (k : ReadsPdi w) where
       }
 
   pub pdi-reads : (n b : ℕ) (bs : List ℕ) {d : Drawing} {rs : List Record} → 32 ≤ b → b ≤ 127
-      → act (pick (ltb b 64) (Opcode b) (Data b)) (w .session .drawing) ≡ Draw d rs
+      → act (pdiAction b) (w .session .drawing) ≡ Draw d rs
       → reading Always (suc n) w (b ∷ bs) ≡ stepThen FromPiece (bytesOfAll rs) (reading Always n (afterByte w d) bs)
   unfolding onOutcome removeSpent
-  pdi-reads n b bs {d} {rs} l h e = reads-step Always n w (b ∷ bs) refl (pdi-found b bs) (rw (pdi-move b l h, e))
+  pdi-reads n b bs {d} {rs} l h e = reads-step Always n w (b ∷ bs) refl (pdi-found b bs) (rw (pdi-move b l h, e, pdi-bodies b (removeSpent w .session .bodies)))
 
   pub pdi-refuses : (n b : ℕ) (bs : List ℕ) {r : Refusal} → 32 ≤ b → b ≤ 127
-      → act (pick (ltb b 64) (Opcode b) (Data b)) (w .session .drawing) ≡ NotDrawn r
+      → act (pdiAction b) (w .session .drawing) ≡ NotDrawn r
       → reading Always (suc n) w (b ∷ bs) ≡ halts r (removeSpent w)
   unfolding onOutcome removeSpent
   pdi-refuses n b bs {r} l h e = reads-halt Always w {r = r} refl (refused (pdi-found b bs) (rw (pdi-move b l h, e)))
@@ -76,7 +83,7 @@ data-finished none n w k e a h =
 data-finished (more {b = b} {bs = bs} {qs = qs} {rs = rs} m t) zero w k e a h = absurd (not-suc-le-zero h)
 data-finished (more {n = d} {b = b} {bs = bs} {qs = qs} {rs = rs} m t) (suc n) w k e a h =
     let r = data-range b (and-left (isData b) (allData bs) a) in
-    let s : act (pick (ltb b 64) (Opcode b) (Data b)) (w .session .drawing) ≡ Draw d qs = rw (le-ltb b 64 (r .0), e) m in
+    let s : act (pdiAction b) (w .session .drawing) ≡ Draw d qs = rw (le-ltb b 64 (r .0), e) m in
     let i = data-finished t n (afterByte w d) (pdi-after w k d) refl (and-right (isData b) (allData bs) a) (le-of-suc-le-suc h) in
     rw (pdi-reads w k n b bs (omega arith) (r .1) s)
     record {
@@ -94,5 +101,5 @@ data-budget (more {b = b} {bs = bs} m t) zero w k e a h =
     refused-done (rw (reads-halt Always w refl (budget (Found b (removeSpent w) FromPiece bs) (pdi-found w k b bs) tt)) at h)
 data-budget (more {n = d} {b = b} {bs = bs} {qs = qs} m t) (suc n) w k e a h =
     let r = data-range b (and-left (isData b) (allData bs) a) in
-    let s : act (pick (ltb b 64) (Opcode b) (Data b)) (w .session .drawing) ≡ Draw d qs = rw (le-ltb b 64 (r .0), e) m in
+    let s : act (pdiAction b) (w .session .drawing) ≡ Draw d qs = rw (le-ltb b 64 (r .0), e) m in
     suc-le-suc (data-budget t n (afterByte w d) (pdi-after w k d) refl (and-right (isData b) (allData bs) a) (rw (pdi-reads w k n b bs (omega arith) (r .1) s) at h))

@@ -2,7 +2,7 @@
 use Rattle.rules.specs.Prelude.{ℕ, zero, suc, _+_, _*_, _<_, zero-add, suc-add, arith, _≡_, refl, sym, ap, ap₂, _∙_, subst, Bool, true, false, List, [], _∷_, _++_, length, getD, ltb, eqb}
 use Rattle.rules.specs.Types.{Repertoire, Primary, Supplementary, Mosaic, Drcs, Set, Characters, Pdi, Macro, Element, Definition}
 use Rattle.rules.specs.Types.{Waiting, Nothing, Shifted, Escape, Designator, Longer, Name, Body, BodyEscape, Row·waiting as Row, Column}
-use Rattle.rules.specs.Types.{Coding, Control, Ignored, Locks, Shifts, Escapes, Recorded, Formats, Positions, Positioning, Aps, Nsr}
+use Rattle.rules.specs.Types.{Coding, Control, Ignored, Locks, Shifts, Escapes, Recorded, Cancels, Formats, Positions, Positioning, Aps, Nsr}
 use Rattle.rules.specs.Types.{Class, Below, Column2, Above, Final, Opens, Refuses, UsesG2, UsesG3, Closes, NoMeaning}
 use Rattle.rules.specs.Types.{Designated, Names, Unassigned, Inner, OpensNext, Bars, EndsBody, StartsAfresh, StoresBoth}
 use Rattle.rules.specs.Types.{Action, Idle, Close, Position, Opcode, Data, Drawing, Record, Read, Byte, BadCell, Verdict, Passes, Fails, Done}
@@ -41,6 +41,7 @@ control-settles (Locks e) c st b = refl
 control-settles (Shifts s) c st b = refl
 control-settles Escapes c st b = refl
 control-settles Recorded c st b = refl
+control-settles Cancels c st b = refl
 control-settles (Formats f) c st b = refl
 control-settles (Positions Aps) c st b = refl
 control-settles (Positions Nsr) c st b = refl

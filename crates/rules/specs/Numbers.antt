@@ -18,6 +18,10 @@ mostDepth = 8
 abbrev pub esc : ℕ
 esc = 27
 
+-- 02, 4/13: "Annex D's control 1/8 .."
+abbrev pub can : ℕ
+can = 24
+
 -- "Record, 40 bytes"
 abbrev pub recordSize : ℕ
 recordSize = 40

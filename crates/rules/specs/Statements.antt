@@ -1,17 +1,19 @@
 -- What is claimed of every page, cut, buffer and macro, proved in proofs/Cutting, Expanding and Demand3; of the coordinates of every
--- record and of the cursor, proved in proofs/Places; and of colours cut short, proved in proofs/Colours
-use Rattle.rules.specs.Prelude.{ℕ, _*_, _-_, _/_, _%_, _^_, _<_, _≤_, _≡_, Bool, true, false, _||_, List, [], _∷_, _++_, length, take, eqb}
-use Rattle.rules.specs.Types.{Done, Full, Pdi, Close, Point, Text, Record, Reach, Drawing, Aps, Nsr}
+-- record and of the cursor, proved in proofs/Places; of colours cut short, proved in proofs/Colours; and of CAN, proved in
+-- proofs/Cancelling
+use Rattle.rules.specs.Prelude.{ℕ, suc, _*_, _-_, _/_, _%_, _^_, _<_, _≤_, _≡_, Bool, true, false, _||_, List, [], _∷_, _++_, length, take, eqb}
+use Rattle.rules.specs.Types.{Done, Full, Pdi, Close, Point, Text, Record, Reach, Drawing, Refusal, Aps, Nsr}
 use Rattle.rules.specs.Types.{Waiting, Nothing, Shifted, Escape, Designator, Longer, Name, Body, BodyEscape, Row·waiting as Row, Column}
-use Rattle.rules.specs.Numbers.{screenSide}
+use Rattle.rules.specs.Numbers.{can, screenSide}
 use Rattle.rules.specs.Record.{bytesOfAll}
 use Rattle.rules.specs.Text.{positive, fieldFits, fieldBox}
-use Rattle.rules.specs.Coding.{setOf}
-use Rattle.rules.specs.Drawing.{Draw, shadeTo, closed, act}
-use Rattle.rules.specs.Step.{State, removeSpent}
+use Rattle.rules.specs.Bodies.{bytesLeft, leaveAll}
+use Rattle.rules.specs.Coding.{wait, setOf}
+use Rattle.rules.specs.Drawing.{NotDrawn, Draw, shadeTo, closed, controlRecord, act}
+use Rattle.rules.specs.Step.{State, stepped, removeSpent, Source, Found, seek, Stops, Goes, interpret}
 use Rattle.rules.specs.Reading.{Reading, Limit, Steps, readTo, undivided, Waits}
 use Rattle.rules.specs.Calls.{Terms, freshState, end, Lent, feeds, lentBytes}
-use Rattle.rules.specs.Expansion.{expansion, endPage, Accepted, allRecords, SameState, SamePage}
+use Rattle.rules.specs.Expansion.{undropped, expand, expansion, endPage, Accepted, allRecords, SameState, SamePage}
 
 -- Cuts and buffers: what a list of one or more feeds from the session and store w hands over. Its last answer, joined records, bytes
 -- consumed in all, session with its step count and store are those of the undivided reading of all the bytes lent; where the answer is
@@ -161,3 +163,43 @@ pub record CutColour (w : State) (bs : List ℕ) (k : ℕ) : Type 0 where
   pub blue : ℕ
   pub whole : GivesColour w bs green red blue
   pub cut : GivesColour w (take k bs) (cutAfter k green) (cutAfter k red) (cutAfter k blue)
+
+-- CAN
+
+-- A control is read as one where nothing is waited for, or a shift or a sequence that it drops: not in a definition, as a name, a row or a
+-- column
+abbrev pub TakesControl : Waiting → Type 0
+TakesControl Nothing = Unit {0}
+TakesControl (Shifted s) = Unit {0}
+TakesControl Escape = Unit {0}
+TakesControl (Designator e) = Unit {0}
+TakesControl Longer = Unit {0}
+TakesControl Name = ⊥
+TakesControl (Body d) = ⊥
+TakesControl (BodyEscape d) = ⊥
+TakesControl (Row x) = ⊥
+TakesControl (Column x r) = ⊥
+
+-- 02, 4/13: a 1/8 that took w to u. It closed the open command, then wrote its record, then left every body; what was waited for is
+-- dropped, and all else is as it was. No body has a byte left, so that an end call gives no 11. From the page it leaves none
+pub record Cancelled (w u : State) (rs : List Record) : Type 0 where
+  pub shut : Drawing
+  pub closing : List Record
+  pub closes : act Close (w .session .drawing) ≡ Draw shut closing
+  pub writes : rs ≡ closing ++ (controlRecord can shut ∷ [])
+  pub leaves : u ≡ stepped (leaveAll (w .session .bodies)) (wait Nothing (w .session .coding)) shut (w .store) w
+  pub noneLeft : bytesLeft (u .store) (u .session .bodies) ≡ false
+  pub fromPage : w .session .bodies .depth ≡ 0 → u .session .bodies ≡ w .session .bodies
+
+-- Interpreted in any state and from any source it does so, or is refused as closing is
+pub record CancelsBodies (w : State) (s : Source) : Type 0 where
+  pub accepted : (u : State) (rs : List Record) → interpret w s can ≡ Goes u rs → Cancelled w u rs
+  pub refused : (r : Refusal) → interpret w s can ≡ Stops r → act Close (w .session .drawing) ≡ NotDrawn r
+
+-- 02, 4/13: "Unread bytes of the bodies left are not part of the expansion, ..": where the byte sought is such a 1/8 and took v to u, it is
+-- part of the expansion, which goes on from u with what is left of the page; no body runs there
+abbrev pub ExpandsCancel : State → List ℕ → Type 0
+ExpandsCancel w bs =
+    (n : ℕ) (held r : List ℕ) (v u : State) (s : Source) (rs : List Record)
+    → seek (removeSpent w) bs ≡ Found can v s r → interpret v s can ≡ Goes u rs
+    → (expand (suc n) w bs held ≡ undropped (w .session .coding) can held ++ (can ∷ expand n u r [])) × (u .session .bodies .depth ≡ 0)

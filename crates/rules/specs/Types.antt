@@ -18,7 +18,7 @@ pub use Rattle.rules.specs.declared.Effector.{Effector}
 pub use Rattle.rules.specs.declared.Effector.the-variants.{Apb, Apf, Apd, Apu, Cs, Apr, Aph}
 pub use Rattle.rules.specs.declared.Coding.{Coding}
 pub use Rattle.rules.specs.declared.Control.{Control}
-pub use Rattle.rules.specs.declared.Control.the-variants.{Ignored, Locks, Shifts, Escapes, Recorded, Formats, Positions}
+pub use Rattle.rules.specs.declared.Control.the-variants.{Ignored, Locks, Shifts, Escapes, Recorded, Cancels, Formats, Positions}
 pub use Rattle.rules.specs.declared.Class.{Class}
 pub use Rattle.rules.specs.declared.Class.the-variants.{Below, Column2, Above}
 pub use Rattle.rules.specs.declared.Final.{Final}
@@ -28,7 +28,7 @@ pub use Rattle.rules.specs.declared.Designated.the-variants.{Names, Unas
 pub use Rattle.rules.specs.declared.Inner.{Inner}
 pub use Rattle.rules.specs.declared.Inner.the-variants.{OpensNext, Bars, EndsBody, StartsAfresh, StoresBoth}
 pub use Rattle.rules.specs.declared.Action.{Action}
-pub use Rattle.rules.specs.declared.Action.the-variants.{Idle, Close, Control as Control·action, Format, Reset, Position, Character, Opcode, Data}
+pub use Rattle.rules.specs.declared.Action.the-variants.{Idle, Close, Control as Control·action, Cancel, Format, Reset, Position, Character, Opcode, Data}
 pub use Rattle.rules.specs.declared.Bodies.{Bodies}
 pub use Rattle.rules.specs.declared.Cursor.{Cursor}
 pub use Rattle.rules.specs.declared.Read.{Read}

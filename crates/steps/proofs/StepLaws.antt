@@ -32,7 +32,7 @@ use Rattle.records.proofs.Writes.{overwrite-none}
 use Rattle.figures.specs.declared.Drawn.{Drawn}
 use Rattle.figures.specs.Carried.{Carried, carry, drawingOf, carriedOf}
 use Rattle.drawing.proofs.Refusals.{OnlyVertices, act-vertices}
-use Rattle.bodies.specs.Stack.{bodiesOf}
+use Rattle.bodies.specs.Stack.{bodiesOf, DepthAfter}
 use Rattle.reactions.specs.View.{codingOf, effectOn, reactionOf, AsLent, setsAfter}
 use Rattle.reactions.specs.declared.Effect.{Effect}
 use Rattle.reactions.specs.declared.Effect.the-variants.{Refuses, Calls, Acts}
@@ -145,11 +145,11 @@ module _ (budget : ℕ) (p : Progress) (cells places firsts : List ℕ) (d : Dra
 -- An action
 module _ (budget : ℕ) (p : Progress) (cells places firsts : List ℕ) (d : Drawing) (st out : List ℕ) (x : Cursor) (s : Sets) (u : Waiting) where
   abbrev asked : Action → Left
-  asked a = leaves (stepBy (p .depth) x (onOutcome (act a d) (codingOf s u firsts) st) (stateAt budget p cells places firsts d st)) (p .at) (p .written) out
+  asked a = leaves (stepBy (p .depth) x (onOutcome (act a d) a (codingOf s u firsts) st) (stateAt budget p cells places firsts d st)) (p .at) (p .written) out
 
   idled : (y : Bodies) (cells₁ places₁ : List ℕ) (after : ℕ) → bodiesOf (p .depth) cells₁ places₁ ≡ y → after ≡ consumedBy (sourceAt (p .depth)) (p .at)
       → leftOf budget p (goes (stepsTo after (p .depth) s u p)) cells₁ places₁ firsts d st out
-      ≡ leaves {n = 1} (onMove (onOutcome (act Idle d) (codingOf s u firsts) st (withBodies y (stateAt budget p cells places firsts d st))) 0 (sourceAt (p .depth)) [] (stateAt budget p cells places firsts d st)) (p .at) (p .written) out
+      ≡ leaves {n = 1} (onMove (onOutcome (act Idle d) Idle (codingOf s u firsts) st (withBodies y (stateAt budget p cells places firsts d st))) 0 (sourceAt (p .depth)) [] (stateAt budget p cells places firsts d st)) (p .at) (p .written) out
   unfolding act onOutcome onMove leaves bytesOfAll
   idled y cells₁ places₁ after e a = rw (← e, ← a, overwrite-none out (p .written), add-zero (p .written), add-one (p .steps))
 
@@ -162,18 +162,19 @@ module _ (budget : ℕ) (p : Progress) (cells places firsts : List ℕ) (d : Dra
   idle-goes cells₁ places₁ after e a q k = rw k (idled (readOn (p .depth) x (bodiesOf (p .depth) cells places)) cells₁ places₁ after e a)
 
   -- One that is left to drawing
-  pub draws-left : (a : Action) (after : ℕ) (q : Progress) → q ≡ stepsTo after (p .depth) s u p
+  pub draws-left : (a : Action) (after depth : ℕ) (q : Progress) → q ≡ stepsTo after depth s u p
       → leftOf budget p (record { course = Draws a; progress = q; cursor = x }) cells places firsts d st out ≡ asked a
-  draws-left a after q k = rw k
+  draws-left a after depth q k = rw k
 
-pub draws-due : (a : Action) (p : Progress) (s : Sets) (u : Waiting) (n : ℕ) (q : Progress) → Ready p n → q ≡ stepsTo n (p .depth) s u p → DrawDueBy (Draws a) p q
-draws-due a p s u n q h e = (rw (e, h .after), h .depth)
+pub draws-due : (a : Action) (p : Progress) (s : Sets) (u : Waiting) (n depth : ℕ) (q : Progress) → Ready p n → DepthAfter a (p .depth) depth
+    → q ≡ stepsTo n depth s u p → DrawDueBy (Draws a) p q
+draws-due a p s u n depth q h k e = (rw (e, h .after), rw e k, h .depth)
 
 -- The action of a turn from p to q, which drawing answers with r
-module _ (budget : ℕ) (p q : Progress) (e : q ≡ stepsTo (consumedBy (sourceAt (p .depth)) (p .at)) (p .depth) (q .sets) (q .waiting) p)
-    (cells places firsts : List ℕ) (d : Drawing) (st out : List ℕ) (x : Cursor) (a : Action)
+module _ (budget : ℕ) (p q : Progress) (e : q ≡ stepsTo (consumedBy (sourceAt (p .depth)) (p .at)) (q .depth) (q .sets) (q .waiting) p)
+    (cells places firsts : List ℕ) (d : Drawing) (st out : List ℕ) (x : Cursor) (a : Action) (l : DepthAfter a (p .depth) (q .depth))
     (r : Drawn) (map₁ out₁ : List ℕ) (f : carriedOf r map₁ out₁ ≡ carry (act a d) d (p .written) out)
-    (cells₁ places₁ : List ℕ) (g : bodiesOf (q .depth) cells₁ places₁ ≡ readOnIf (r .«too_many_vertices») (q .depth) x (bodiesOf (q .depth) cells places)) where
+    (cells₁ places₁ : List ℕ) (g : bodiesOf (p .depth) cells₁ places₁ ≡ readOnIf (r .«too_many_vertices») (p .depth) x (bodiesOf (p .depth) cells places)) where
   abbrev drawn : Left
   drawn = leftBy (Draws a) budget p q x cells places firsts d st out
 
@@ -186,11 +187,11 @@ module _ (budget : ℕ) (p q : Progress) (e : q ≡ stepsTo (consumedBy (sourceA
   draw-refused pen command look map k n = by (act a d) f (act-vertices a d)
     where
       same : bodiesOf (p .depth) cells₁ places₁ ≡ bodiesOf (p .depth) cells places
-      same = rw (ap (λ (z : Progress). z .depth) e, n) at g
+      same = rw n at g
 
       by : (o : Outcome) → carriedOf r map₁ out₁ ≡ carry o d (p .written) out → OnlyVertices o
           → record { course = Ends·course (Refused TooManyVertices); state = answered (Refused TooManyVertices) (stateAt budget p cells₁ places₁ firsts (drawingOf pen command look map₁) st); consumed = p .at; written = p .written; output = out₁ }
-          ≡ leaves (stepBy (p .depth) x (onOutcome o (codingOf (q .sets) (q .waiting) firsts) st) (stateAt budget p cells places firsts d st)) (p .at) (p .written) out
+          ≡ leaves (stepBy (p .depth) x (onOutcome o a (codingOf (q .sets) (q .waiting) firsts) st) (stateAt budget p cells places firsts d st)) (p .at) (p .written) out
       by (NotDrawn m) h v = rw (v, same, ap (λ (z : Carried). z .drawing .map) h, ap (λ (z : Carried). z .output) h, k)
       by (Draw c rs) h v = false-true (sym (ap (λ (z : Carried). z .refused) h) ∙ n)
 
@@ -200,14 +201,14 @@ module _ (budget : ℕ) (p q : Progress) (e : q ≡ stepsTo (consumedBy (sourceA
   draw-goes n = by (act a d) f
     where
       on : bodiesOf (p .depth) cells₁ places₁ ≡ readOn (p .depth) x (bodiesOf (p .depth) cells places)
-      on = rw (ap (λ (z : Progress). z .depth) e, n) at g
+      on = rw n at g
 
       by : (o : Outcome) → carriedOf r map₁ out₁ ≡ carry o d (p .written) out
           → record { course = GoesOn; state = stateAt budget (writtenTo (r .at) q) cells₁ places₁ firsts after·draw st; consumed = q .at; written = r .at; output = out₁ }
-          ≡ leaves (stepBy (p .depth) x (onOutcome o (codingOf (q .sets) (q .waiting) firsts) st) (stateAt budget p cells places firsts d st)) (p .at) (p .written) out
+          ≡ leaves (stepBy (p .depth) x (onOutcome o a (codingOf (q .sets) (q .waiting) firsts) st) (stateAt budget p cells places firsts d st)) (p .at) (p .written) out
       by (NotDrawn m) h = true-false (sym (ap (λ (z : Carried). z .refused) h) ∙ n)
       by (Draw c rs) h =
-          rw (← on, ap (λ (z : Progress). z .at) e, ap (λ (z : Progress). z .steps) e, ap (λ (z : Progress). z .depth) e, add-one (p .steps))
+          rw (← on, ← l cells₁ places₁, ap (λ (z : Progress). z .at) e, ap (λ (z : Progress). z .steps) e, add-one (p .steps))
           (ap (λ (z : Carried).
           record {
             course = GoesOn;
@@ -218,7 +219,7 @@ module _ (budget : ℕ) (p q : Progress) (e : q ≡ stepsTo (consumedBy (sourceA
           }) h)
         where
           stateWith : Drawing → State
-          stateWith z = record { session = record { budget = budget; steps = suc (p .steps); status = Running; bodies = bodiesOf (p .depth) cells₁ places₁; coding = codingOf (q .sets) (q .waiting) firsts; drawing = z }; store = st }
+          stateWith z = record { session = record { budget = budget; steps = suc (p .steps); status = Running; bodies = bodiesOf (q .depth) cells₁ places₁; coding = codingOf (q .sets) (q .waiting) firsts; drawing = z }; store = st }
 
 -- The reaction that leads there
 module _ (budget : ℕ) (p : Progress) (cells places firsts : List ℕ) (d : Drawing) (st out : List ℕ) (x : Cursor) (b : ℕ) where
@@ -271,20 +272,20 @@ module _ (budget : ℕ) (p : Progress) (cells places firsts : List ℕ) (d : Dra
         reacts (Calls name) (Call after name) l t refl (q ∙ as-lent (call name after) (rw t at (k .0)) (rw t at (k .1)))
 
     -- An action that asks nothing of drawing is not refused, so the state before it does not matter
-    idle-anywhere : (a : Action) (c : Coding) → a ≡ Idle → leavesBy (onOutcome (act a d) c st₁) reacted ≡ leavesBy (onOutcome (act a d) c st₁) entry
+    idle-anywhere : (a : Action) (c : Coding) → a ≡ Idle → leavesBy (onOutcome (act a d) a c st₁) reacted ≡ leavesBy (onOutcome (act a d) a c st₁) entry
     unfolding act onOutcome onMove
     idle-anywhere a c k = rw k
 
-    pub byte-acts : (a : Action) → m .effect ≡ Acts a → (l : Left) → l ≡ leavesBy (onOutcome (act a d) after st₁) reacted → Answers l
+    pub byte-acts : (a : Action) → m .effect ≡ Acts a → (l : Left) → l ≡ leavesBy (onOutcome (act a d) a after st₁) reacted → Answers l
     unfolding onReaction
     byte-acts a t l q = by (act-kept (codingOf (p .sets) (p .waiting) firsts) st b m firsts₁ st₁ e a t)
       where
         by : ((firsts₁ ≡ firsts) × (st₁ ≡ st)) ⊎ (a ≡ Idle) → Answers l
-        by (inl k) = reacts (Acts a) (React after st₁ a) l t refl (q ∙ as-lent (onOutcome (act a d) after st₁) (k .0) (k .1))
+        by (inl k) = reacts (Acts a) (React after st₁ a) l t refl (q ∙ as-lent (onOutcome (act a d) a after st₁) (k .0) (k .1))
         by (inr k) = reacts (Acts a) (React after st₁ a) l t refl (q ∙ idle-anywhere a after k)
 
     -- A change of the sets asks nothing of drawing
     pub byte-idle : (y : Effect) → m .effect ≡ y → React after st₁ Idle ≡ effectOn y after st₁ → (l : Left)
-        → l ≡ leavesBy (onOutcome (act Idle d) after st₁) reacted → Answers l
+        → l ≡ leavesBy (onOutcome (act Idle d) Idle after st₁) reacted → Answers l
     unfolding onReaction
     byte-idle y t f l q = reacts y (React after st₁ Idle) l t f (q ∙ idle-anywhere Idle after refl)

@@ -13,7 +13,7 @@ use Rattle.rules.specs.Bodies.{depthLeft}
 use Rattle.rules.specs.Drawing.{act}
 use Rattle.rules.specs.Step.{State, stateOf, withStatus, onOutcome}
 use Rattle.rules.specs.Reading.{consumedBy}
-use Rattle.bodies.specs.Stack.{bodiesOf}
+use Rattle.bodies.specs.Stack.{bodiesOf, DepthAfter}
 use Rattle.reactions.specs.View.{codingOf, setsAfter}
 use Rattle.reactions.specs.declared.Reacted.{Reacted}
 use Rattle.steps.specs.Leaving.{sourceAt, readOn, stepBy, Left, leaves}
@@ -62,19 +62,20 @@ leftBy (Ends a) budget p q x cells places firsts d st out =
     }
 leftBy (Draws a) budget p q x cells places firsts d st out =
     leaves
-    (stepBy (p .depth) x (onOutcome (act a d) (codingOf (q .sets) (q .waiting) firsts) st) (stateAt budget p cells places firsts d st))
+    (stepBy (p .depth) x (onOutcome (act a d) a (codingOf (q .sets) (q .waiting) firsts) st) (stateAt budget p cells places firsts d st))
     (p .at) (p .written) out
 
 abbrev pub leftOf : ℕ → Progress → Turned → List ℕ → List ℕ → List ℕ → Drawing → List ℕ → List ℕ → Left
 leftOf budget p r cells places firsts d st out =
     leftBy (r .course) budget p (r .progress) (r .cursor) cells places firsts d st out
 
--- Where an action is to be drawn, q is the progress of an accepted step from p that keeps the bodies
+-- Where an action is to be drawn, q is the progress of an accepted step from p
 abbrev pub DrawDueBy : Course → Progress → Progress → Type 0
 DrawDueBy GoesOn p q = Unit
 DrawDueBy (Ends a) p q = Unit
 DrawDueBy (Draws a) p q =
-    (q ≡ stepsTo (consumedBy (sourceAt (p .depth)) (p .at)) (p .depth) (q .sets) (q .waiting) p) × (p .depth ≤ 8)
+    (q ≡ stepsTo (consumedBy (sourceAt (p .depth)) (p .at)) (q .depth) (q .sets) (q .waiting) p)
+    × DepthAfter a (p .depth) (q .depth) × (p .depth ≤ 8)
 
 abbrev pub DrawDue : Progress → Turned → Type 0
 DrawDue p r = DrawDueBy (r .course) p (r .progress)

@@ -1,4 +1,5 @@
 // One step: a byte that was read is interpreted. All that can refuse it comes before the first change.
+use bodies::depth_after;
 use bodies::set_body;
 use coding::react;
 use coding::set_read;
@@ -144,7 +145,7 @@ fn idle(
         → leftOf budget progress r (now (cells .exit)) (now (places .exit)) firsts d st out
         ≡ leaves
         (stepBy (progress .depth) (onward .cursor)
-        (onOutcome (act Action.Idle d) (codingAfter reacted progress firsts) st)
+        (onOutcome (act Action.Idle d) Action.Idle (codingAfter reacted progress firsts) st)
         (stateAt budget progress (now (cells .entry)) (now (places .entry)) firsts d st))
         (progress .at) (progress .written) out) ⌝ }
     ensures due { λ r. ⌜ DrawDue progress r ⌝ }
@@ -166,18 +167,19 @@ fn draws(progress: Progress, onward: Onward, action: Action, reacted: Reacted) -
     ensures left { λ r. ⌜ ((budget : ℕ) (cells places firsts : List ℕ) (d : Drawing) (st out : List ℕ)
         → leftOf budget progress r cells places firsts d st out
         ≡ leaves
-        (stepBy (progress .depth) (onward .cursor) (onOutcome (act action d) (codingAfter reacted progress firsts) st)
+        (stepBy (progress .depth) (onward .cursor) (onOutcome (act action d) action (codingAfter reacted progress firsts) st)
         (stateAt budget progress cells places firsts d st))
         (progress .at) (progress .written) out) ⌝ }
     ensures due { λ r. ⌜ DrawDue progress r ⌝ }
 {
     let cursor = onward.cursor;
+    let depth = depth_after(action, progress.depth);
     let effect = reacted.effect;
     let sets = sets_after(effect, progress.sets);
     let waiting = reacted.waiting;
     Turned {
         course: Course::Draws(action),
-        progress: counted(progress, onward.at, progress.depth, sets, waiting),
+        progress: counted(progress, onward.at, depth, sets, waiting),
         cursor,
     }
 }
@@ -194,7 +196,7 @@ fn ask(
     ensures left { λ r. ⌜ ((budget : ℕ) (d : Drawing) (firsts st out : List ℕ)
         → leftOf budget progress r (now (cells .exit)) (now (places .exit)) firsts d st out
         ≡ leaves
-        (stepBy (progress .depth) (onward .cursor) (onOutcome (act action d) (codingAfter reacted progress firsts) st)
+        (stepBy (progress .depth) (onward .cursor) (onOutcome (act action d) action (codingAfter reacted progress firsts) st)
         (stateAt budget progress (now (cells .entry)) (now (places .entry)) firsts d st))
         (progress .at) (progress .written) out) ⌝ }
     ensures due { λ r. ⌜ DrawDue progress r ⌝ }

@@ -3,7 +3,7 @@ use Rattle.tables.proofs.Prelude.{ℕ, zero, suc, _+_, _-_, _<_, _≤_,
 use Rattle.rules.specs.declared.Class.{Class}
 use Rattle.rules.specs.declared.Class.the-variants.{Below, Column2, Above}
 use Rattle.rules.specs.declared.Control.{Control}
-use Rattle.rules.specs.declared.Control.the-variants.{Ignored, Locks, Shifts, Escapes, Recorded, Formats, Positions}
+use Rattle.rules.specs.declared.Control.the-variants.{Ignored, Locks, Shifts, Escapes, Recorded, Cancels, Formats, Positions}
 use Rattle.rules.specs.declared.Effector.{Effector}
 use Rattle.rules.specs.Coding.{controls, classOf}
 use Rattle.rules.proofs.Bools.{true-false, false-true, by-test, pick-yes, pick-no, pick-all}
@@ -67,6 +67,7 @@ is-format (Locks e) = false
 is-format (Shifts e) = false
 is-format Escapes = false
 is-format Recorded = false
+is-format Cancels = false
 is-format (Formats f) = true
 is-format (Positions p) = false
 

@@ -28,8 +28,10 @@ pub fn class_of(b: u8) -> Class
         // 0/14 SO, 0/15 SI
         14 => Class::Below(Control::Locks(Element::G1)),
         15 => Class::Below(Control::Locks(Element::G0)),
-        // 1/0 to 1/8
-        16..=24 => Class::Below(Control::Recorded),
+        // 1/0 to 1/7
+        16..=23 => Class::Below(Control::Recorded),
+        // 1/8 CAN
+        24 => Class::Below(Control::Cancels),
         // 1/9 SS2
         25 => Class::Below(Control::Shifts(SingleShift::Ss2)),
         26 => Class::Below(Control::Recorded),

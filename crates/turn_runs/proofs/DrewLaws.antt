@@ -1,26 +1,32 @@
 -- The tip after a run, put together with a text
-use Rattle.turn_runs.specs.Prelude.{ℕ, zero, suc, _+_, _≤_, arith, Bool, true, false, List, length, _≡_, refl, subst}
+use Rattle.turn_runs.specs.Prelude.{ℕ, zero, suc, _+_, _≤_, add-one, arith, Bool, true, false, List, length, getD, _≡_, refl, sym, ap, _∙_, subst}
 use Rattle.rules.specs.declared.Command.{Command}
 use Rattle.rules.specs.declared.Look.{Look}
+use Rattle.rules.specs.declared.Operand.{Operand}
+use Rattle.rules.specs.declared.Pen.{Pen}
 use Rattle.rules.specs.declared.Point.{Point}
 use Rattle.rules.specs.declared.Set.{Set}
 use Rattle.rules.specs.declared.Set.the-variants.{Pdi}
 use Rattle.rules.specs.declared.Text.{Text}
-use Rattle.rules.specs.Drawing.{noOperand, Draw}
+use Rattle.rules.specs.Numbers.{can, roomForStep}
+use Rattle.rules.specs.Drawing.{noOperand, Draw, act}
 use Rattle.rules.proofs.RecordCount.{AtMost, act-most}
 use Rattle.pens.specs.Tips.{caughtUp, penOf, tipOf}
 use Rattle.pens.specs.declared.tips.Tip.{Tip}
 use Rattle.pens.proofs.TipLaws.{caught-follows}
 use Rattle.figures.specs.Carried.{Carried}
 use Rattle.figures.proofs.Carrying.{carry-most, carry-length}
-use Rattle.drawing_runs.specs.Run.{Run, none, more, RunsTo}
+use Rattle.drawing_runs.specs.Run.{standing, Run, none, more, RunsTo}
 use Rattle.drawing_runs.specs.Strokes.{penAfter, PassesTo}
 use Rattle.drawing_runs.specs.declared.Passed.{Passed}
 use Rattle.drawing_runs.specs.declared.Ran.{Ran}
 use Rattle.drawing_runs.specs.declared.Drew.{Drew}
 use Rattle.drawing_runs.specs.Drew.{DrawsTo}
 use Rattle.drawing_runs.proofs.RunLaws.{run-then}
+use Rattle.command_steps.specs.declared.opening.Next.{Next}
+use Rattle.command_steps.specs.Asked.{GoesOn}
 use Rattle.turn_runs.specs.Drew.{tipAfter}
+use Rattle.turn_runs.specs.Cancelling.{CancelsTo, cancelled}
 
 after-tip : (t : Text) (n : ℕ) (w : Bool) (x : Tip) (q : Point) → penAfter n w (penOf t x) q ≡ penOf t (tipAfter n w q x)
 after-tip t zero w x q = refl
@@ -50,6 +56,18 @@ pub types-draws : (s : Set) (bytes : List ℕ) (from : ℕ) (t u v : Text) (x y 
     → RunsTo s bytes from (record { point = x .point; text = u; operand = x .operand }) c l at out r left
     → DrawsTo s bytes from t x c l at out (record { count = r .count; at = r .at; tip = y; command = r .command }) v left
 types-draws s bytes from t u v x y c l at out r left e g h runs m = rw (h, g, ← e) (runs m)
+
+-- A CAN is marked as a recorded control is
+pub marks-cancel : (bytes : List ℕ) (from : ℕ) (t : Text) (l : Look) (x : Drew) (out : List ℕ) (n : Next) (left : List ℕ) (y : Tip)
+    → getD bytes (from + x .count) 0 ≡ can → x .at + roomForStep ≤ length out → x .tip .operand .count ≡ 0
+    → ((s : Text) (o : Operand) (m : List ℕ) → o .count ≡ 0 → GoesOn can (x .tip .point) s o (x .command) l m (x .at) out n left)
+    → y ≡ tipAfter 1 (n .moved) (n .point) (x .tip)
+    → CancelsTo bytes from t l x out (record { count = x .count + 1; at = n .at; tip = y; command = n .command }) left
+unfolding act
+marks-cancel bytes from t l x out n left y is room fresh goes e =
+    cancelled (add-one (x .count)) is room
+    (λ m. ap (λ (p : Pen). standing p (n .command) l m (n .at) left) (ap (penOf t) e ∙ sym (after-tip t 1 (n .moved) (x .tip) (n .point)))
+    ∙ goes (caughtUp (x .tip .behind) (x .tip .point) t) (x .tip .operand) m fresh)
 
 -- No operand is begun after them
 pub tip-fresh : (n : ℕ) (w : Bool) (q : Point) (x : Tip) → x .operand .count ≡ 0 → tipAfter n w q x .operand .count ≡ 0

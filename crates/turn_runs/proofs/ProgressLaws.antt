@@ -1,26 +1,35 @@
 -- Runs of bytes that are drawn, over the parts that the code holds
-use Rattle.turn_runs.specs.Prelude.{ℕ, zero, suc, _+_, _-_, _≤_, _<_, add-zero, arith, _≡_, refl, sym, ap, subst, Bool, true, false, List, length, getD, set, set-getD, ltb, ltb-true, ltb-false}
+use Rattle.turn_runs.specs.Prelude.{ℕ, zero, suc, _+_, _-_, _≤_, _<_, add-zero, arith, _≡_, refl, sym, ap, _∙_, subst, Bool, true, false, List, length, getD, set, set-getD, ltb, ltb-true, ltb-false, lt-ltb, le-ltb}
+use Rattle.rules.specs.declared.Action.the-variants.{Cancel}
+use Rattle.rules.specs.declared.Coding.{Coding}
 use Rattle.rules.specs.declared.Command.{Command}
 use Rattle.rules.specs.declared.Cursor.{Cursor}
 use Rattle.rules.specs.declared.Look.{Look}
 use Rattle.rules.specs.declared.Pen.{Pen}
 use Rattle.rules.specs.declared.Set.{Set}
+use Rattle.rules.specs.declared.Text.{Text}
 use Rattle.rules.specs.declared.Waiting.the-variants.{Nothing}
 use Rattle.rules.specs.declared.Status.the-variants.{Running}
-use Rattle.rules.specs.Numbers.{mostBytes}
+use Rattle.rules.specs.Numbers.{mostBytes, can, roomForStep}
 use Rattle.rules.specs.Bodies.{bodyAt}
 use Rattle.rules.specs.Coding.{setOf}
+use Rattle.rules.specs.Drawing.{Outcome, NotDrawn, Draw, act}
 use Rattle.rules.specs.Step.{stateOf}
+use Rattle.rules.proofs.Bools.{true-false, pick-all}
+use Rattle.pens.specs.Tips.{penOf}
 use Rattle.store.specs.Stretch.{Gives}
 use Rattle.bodies.specs.Stack.{bodiesOf}
-use Rattle.figures.specs.Carried.{Carried, drawingOf}
+use Rattle.figures.specs.Carried.{Carried, carry, carryOut, drawingOf}
 use Rattle.drawing_runs.specs.Run.{Run, standing, none as run-none, more as run-more}
+use Rattle.drawing_runs.specs.declared.Drew.{Drew}
 use Rattle.reactions.specs.View.{codingOf}
+use Rattle.steps.specs.Leaving.{sourceAt}
 use Rattle.progress.specs.declared.Progress.{Progress}
 use Rattle.progress.specs.declared.Reached.{Reached}
-use Rattle.progress.specs.Progress.{placeAfter, ranOn}
+use Rattle.progress.specs.Progress.{placeAfter}
 use Rattle.coded_turns.specs.Walk.{Place, placed, placeAt, reachedAt, Walk, sourceOf, placesAfter, Lies}
-use Rattle.coded_turns.proofs.RunLaws.{run-walk, piece-feeds, body-feeds}
+use Rattle.coded_turns.proofs.RunLaws.{Feeds, run-walk, cancel-walk, piece-feeds, body-feeds}
+use Rattle.turn_runs.specs.Cancelling.{CancelsTo, kept, cancelled, cancelledOn}
 
 -- A walk from the same place
 pub walk-from : {budget : ℕ} {r s : Reached} (words : List ℕ) {cells places firsts map st piece out : List ℕ} {y : Place} → r ≡ s
@@ -116,48 +125,75 @@ run-still r e =
     let q = sym (run-zero r e) in
     (ap (λ (c : Carried). c .at) q, ap (λ (c : Carried). c .drawing .pen) q, ap (λ (c : Carried). c .drawing .command) q, ap (λ (c : Carried). c .output) q)
 
--- Bytes drawn
+-- Where the bytes are read that lie there
+feeds-at : (d : ℕ) {at : ℕ} {cells places st piece : List ℕ} {from to : ℕ} → Lies d at cells places st piece from to
+    → Feeds piece (sourceOf d piece st) from (to - from) st (sourceAt d) (λ k. bodiesOf d cells (placesAfter d k places)) (λ k. placeAfter d k at)
+feeds-at zero {at} {cells} {places} {st} {piece} {from} {to} h =
+    subst (λ (n : ℕ). Feeds piece piece from (to - from) st (sourceAt 0) (λ k. bodiesOf 0 cells places) (λ k. n + k)) (h .start refl)
+    (piece-feeds piece from (to - from) cells places st (omega (arith, h .order, h .within)))
+feeds-at (suc i) {at} {cells} {places} {st} {piece} {from} {to} h =
+    body-feeds piece at from (to - from) i cells places st (bodyAt (bodiesOf (suc i) cells places) i) refl
+    (h .passes 0 (omega (arith, h .order)) i refl .0) (λ k l. h .gives i refl k (omega arith))
+
+place-none : (d at : ℕ) → placeAfter d 0 at ≡ at
+place-none zero at = add-zero at
+place-none (suc i) at = refl
+
+-- Bytes drawn, x, and then a CAN or nothing
 module _ (budget : ℕ) (p : Progress) (cells places firsts : List ℕ) (pen : Pen) (command : Command) (look : Look) (map st piece out : List ℕ)
-    (s : Set) (bytes : List ℕ) (n at : ℕ) (pen₁ : Pen) (command₁ : Command) (out₁ : List ℕ) (from to : ℕ) (waits : p .waiting ≡ Nothing)
+    (s : Set) (bytes : List ℕ) (t : Text) (x : Drew) (out₁ : List ℕ) (from to : ℕ) (waits : p .waiting ≡ Nothing)
     (used : s ≡ setOf (p .sets .used) (p .sets)) (source : bytes ≡ sourceOf (p .depth) piece st)
-    (run : Run s bytes from (standing pen command look map (p .written) out) n (standing pen₁ command₁ look map at out₁))
-    (most : from + n ≤ to) (few : to - from ≤ budget - p .steps)
+    (run : Run s bytes from (standing pen command look map (p .written) out) (x .count) (standing (penOf t (x .tip)) (x .command) look map (x .at) out₁))
+    (few : to - from ≤ budget - p .steps) (lies : Lies (p .depth) (p .at) cells places st piece from to)
   where
+    abbrev coding : Coding
+    coding = codingOf (p .sets) (p .waiting) firsts
+
     abbrev here : Place
     here = placeAt budget p cells places firsts (drawingOf pen command look map) st out
 
-    abbrev RunFrom : ℕ → Type 0
-    RunFrom d = Run (setOf (p .sets .used) (p .sets)) (sourceOf d piece st) from (standing pen command look map (p .written) out) n (standing pen₁ command₁ look map at out₁)
+    -- After so many bytes, at a depth
+    abbrev there : ℕ → ℕ → Carried → Place
+    there n d z =
+        placed (stateOf budget (p .steps + n) Running (bodiesOf d cells (placesAfter (p .depth) n places)) coding (z .drawing) st)
+        (placeAfter (p .depth) n (p .at)) (z .at) (z .output)
 
-    abbrev there : ℕ → Place
-    there d =
-        placed (stateOf budget (p .steps + n) Running (bodiesOf d cells (placesAfter d n places)) (codingOf (p .sets) (p .waiting) firsts) (drawingOf pen₁ command₁ look map) st)
-        (placeAfter d n (p .at)) at out₁
+    abbrev drawn : Carried
+    drawn = standing (penOf t (x .tip)) (x .command) look map (x .at) out₁
 
-    walk-piece : RunFrom 0 → Lies 0 (p .at) cells places st piece from to
-        → Walk piece (placed (stateOf budget (p .steps) Running (bodiesOf 0 cells places) (codingOf (p .sets) (p .waiting) firsts) (drawingOf pen command look map) st) (p .at) (p .written) out) (there 0)
-    walk-piece r h =
-        let on : from + n ≤ length piece = omega (arith, h .within) in
-        let w = run-walk (piece-feeds piece from n cells places st on) budget (p .steps) (codingOf (p .sets) (p .waiting) firsts) waits (omega arith) r (omega arith) in
-        rw (h .start refl, add-zero (p .steps), add-zero (p .at)) at w
+    from-here : {y : Place} → Walk piece (there 0 (p .depth) (standing pen command look map (p .written) out)) y → Walk piece here y
+    from-here a = rw (add-zero (p .steps), past-none (p .depth) 0 places refl, place-none (p .depth) (p .at)) at a
 
-    walk-body : (i : ℕ) → RunFrom (suc i) → Lies (suc i) (p .at) cells places st piece from to
-        → Walk piece (placed (stateOf budget (p .steps) Running (bodiesOf (suc i) cells places) (codingOf (p .sets) (p .waiting) firsts) (drawingOf pen command look map) st) (p .at) (p .written) out) (there (suc i))
-    walk-body i r h =
-        let x = bodyAt (bodiesOf (suc i) cells places) i in
-        let w = run-walk (body-feeds piece (p .at) from n i cells places st x refl (h .passes 0 (omega (arith, h .order)) i refl .0) (λ k l. h .gives i refl k (omega arith))) budget (p .steps) (codingOf (p .sets) (p .waiting) firsts) waits (omega arith) r (omega arith) in
-        let same : set places i (getD places i 0 + 0) ≡ places = rw (add-zero (getD places i 0)) (set-getD places i 0) in
-        rw (add-zero (p .steps), same) at w
+    run-here : Run (setOf (p .sets .used) (p .sets)) (sourceOf (p .depth) piece st) from (standing pen command look map (p .written) out) (x .count) drawn
+    run-here =
+        subst (λ (l : List ℕ). Run (setOf (p .sets .used) (p .sets)) l from (standing pen command look map (p .written) out) (x .count) drawn) source
+        (subst (λ (z : Set). Run z bytes from (standing pen command look map (p .written) out) (x .count) drawn) used run)
 
-    pub walk-run : Lies (p .depth) (p .at) cells places st piece from to → (places₁ : List ℕ) → places₁ ≡ placesAfter (p .depth) n places
-        → Walk piece here (placeAt budget (ranOn n at p) cells places₁ firsts (drawingOf pen₁ command₁ look map) st out₁)
-    walk-run h places₁ q =
-        rw q
-        (by (p .depth)
-        (subst (λ (x : List ℕ). Run (setOf (p .sets .used) (p .sets)) x from (standing pen command look map (p .written) out) n (standing pen₁ command₁ look map at out₁)) source
-        (subst (λ (x : Set). Run x bytes from (standing pen command look map (p .written) out) n (standing pen₁ command₁ look map at out₁)) used run)) h)
+    walk-run : from + x .count ≤ to → Walk piece here (there (x .count) (p .depth) drawn)
+    walk-run most = from-here (run-walk (feeds-at (p .depth) lies) budget (p .steps) coding waits few run-here (omega (arith, lies .order)))
+
+    walk-cancel : from + suc (x .count) ≤ to → getD bytes (from + x .count) 0 ≡ can → x .at + roomForStep ≤ length out₁ → (z : Carried)
+        → z ≡ carryOut (act (Cancel can)) (drawn .drawing) (x .at) out₁ → z .refused ≡ false → Walk piece here (there (suc (x .count)) 0 z)
+    unfolding carry
+    walk-cancel most is room z e h = by (act (Cancel can) (drawn .drawing)) refl e
       where
-        by : (d : ℕ) → RunFrom d → Lies d (p .at) cells places st piece from to
-            → Walk piece (placed (stateOf budget (p .steps) Running (bodiesOf d cells places) (codingOf (p .sets) (p .waiting) firsts) (drawingOf pen command look map) st) (p .at) (p .written) out) (there d)
-        by zero r l = walk-piece r l
-        by (suc i) r l = walk-body i r l
+        by : (o : Outcome) → act (Cancel can) (drawn .drawing) ≡ o → z ≡ carry o (drawn .drawing) (x .at) out₁ → Walk piece here (there (suc (x .count)) 0 z)
+        by (NotDrawn r) q g = true-false (sym (ap (λ (k : Carried). k .refused) g) ∙ h)
+        by (Draw d rs) q g =
+            subst (λ (k : Carried). Walk piece here (there (suc (x .count)) 0 k)) (sym g)
+            (from-here (cancel-walk (feeds-at (p .depth) lies) budget (p .steps) coding waits few run-here (omega (arith, lies .order)) (subst (λ (l : List ℕ). getD l (from + x .count) 0 ≡ can) source is) room q))
+
+    pub walk-drawn : (r : Drew) (out₂ : List ℕ) → CancelsTo bytes from t look x out₁ r out₂ → from + r .count ≤ to
+        → (places₁ : List ℕ) → places₁ ≡ placesAfter (p .depth) (r .count) places
+        → Walk piece here (placeAt budget (cancelledOn (x .count) (r .count) (r .at) p) cells places₁ firsts (drawingOf (penOf t (r .tip)) (r .command) look map) st out₂)
+    walk-drawn r out₂ kept most places₁ q = rw (q, le-ltb (x .count) (x .count) (omega arith)) (walk-run most)
+    walk-drawn r out₂ (cancelled c is room e) most places₁ q =
+        rw (q, c, lt-ltb (x .count) (suc (x .count)) (omega arith))
+        (walk-cancel (omega (arith, c, most)) is room (standing (penOf t (r .tip)) (r .command) look map (r .at) out₂) (e map) refl)
+
+-- What a CAN leaves of a progress: it counts as any byte, and where no byte came the depth is the same
+pub cancelled-steps : (drew ran written : ℕ) (p : Progress) → cancelledOn drew ran written p .steps ≡ p .steps + ran
+cancelled-steps drew ran written p = pick-all (λ (q : Progress). q .steps ≡ p .steps + ran) (ltb drew ran) refl refl
+
+pub cancelled-depth : (drew ran written : ℕ) (p : Progress) → ran ≡ 0 → cancelledOn drew ran written p .depth ≡ p .depth
+cancelled-depth drew ran written p e = rw (le-ltb drew ran (omega (arith, e)))

@@ -1,4 +1,6 @@
 // Runs of bytes that are drawn, from the cell of the innermost body or from the piece.
+use crate::cancelling::after_cancel;
+use crate::cancelling::draw_cancel;
 use bodies::body_at;
 use coded_turns::awaits_nothing;
 use coded_turns::is_marked;
@@ -15,7 +17,6 @@ use pens::words::put_text;
 use pens::words::text_of;
 use progress::Progress;
 use progress::Reached;
-use progress::after_run;
 use rules::Command;
 use rules::Look;
 use rules::Operand;
@@ -53,7 +54,7 @@ fn none_drawn(tip: Tip, command: Command, at: usize) -> Drew
 }
 
 // The tip after so many bytes that looked at no text.
-fn tip_after(count: usize, moved: bool, point: Point, tip: Tip) -> Tip
+pub(crate) fn tip_after(count: usize, moved: bool, point: Point, tip: Tip) -> Tip
     ensures { λ r. ⌜ r ≡ tipAfter count moved point tip ⌝ }
 {
     if count == 0 {
@@ -79,7 +80,7 @@ fn tip_after(count: usize, moved: bool, point: Point, tip: Tip) -> Tip
 }
 
 // Whether none of an operand is begun. It keeps eight bytes.
-fn none_begun(operand: Operand) -> bool
+pub(crate) fn none_begun(operand: Operand) -> bool
     ensures none { λ r. ⌜ (r ≡ true → operand .count ≡ 0) ⌝ }
     ensures eight { λ _. ⌜ length (operand .bytes) ≡ 8 ⌝ }
 {
@@ -378,11 +379,12 @@ pub fn run_drawn<'a>(
         out,
         at,
     );
-    read_past(progress.depth, drew.count, places);
-    let tip = drew.tip;
-    let command = drew.command;
+    let ran = draw_cancel(drew, look, bytes, next.from, next.to, out);
+    read_past(progress.depth, ran.count, places);
+    let tip = ran.tip;
+    let command = ran.command;
     Reached {
-        progress: after_run(progress, drew.count, drew.at),
+        progress: after_cancel(progress, drew.count, ran.count, ran.at),
         tip,
         command,
         look,

@@ -42,6 +42,11 @@ close-and-requires-6 c κs =
     let pre· = c .before .before .before .before .before .before .pre in
     (le-of-lt (count-most _ (pre· .0)), foreground-most _ (pre· .0), pre· .1)
 
+close-and-requires-7 : tie.Need-close-and-requires-7
+close-and-requires-7 c κs =
+    let pre· = c .before .before .before .before .before .before .pre in
+    (le-of-lt (count-most _ (pre· .0)), foreground-most _ (pre· .0), pre· .1)
+
 returns : tie.Need-returns
 unfolding act
 returns c =
@@ -107,6 +112,13 @@ returns-9 c =
     let close-and6· = c .before .before .close-and6 in
     rw (action7· .given .1) (close-and6· .ensures)
 
+returns-10 : tie.Need-returns-10
+unfolding act afterClosing
+returns-10 c =
+    let action8· = c .before .before .before .before .before .before .action8 in
+    let close-and7· = c .before .before .close-and7 in
+    rw (action8· .given .1) (close-and7· .ensures)
+
 pub act-spec : {M : Type 1} → statement M
 act-spec =
     tie.close
@@ -131,6 +143,8 @@ act-spec =
     close-and-requires-5
     (λ c. search needs)
     close-and-requires-6
+    (λ c. search needs)
+    close-and-requires-7
     returns
     returns-2
     (λ c. search needs)
@@ -146,4 +160,6 @@ act-spec =
     (λ c. search needs)
     returns-8
     (λ c. search needs)
-    returns-9)
+    returns-9
+    (λ c. search needs)
+    returns-10)

@@ -41,13 +41,20 @@ returns-5 c =
 returns-6 : tie.Need-returns-6
 unfolding control
 returns-6 c =
-    let k3· = c .before .before .k3 in
+    let enum-told4· = c .before .enum-told4 in
     let act2· = c .act2 in
-    λ s f st. rw (k3· .given .1) (act2· .ensures s f st)
+    λ s f st. rw (enum-told4· .given .1) (act2· .ensures s f st)
 
 returns-7 : tie.Need-returns-7
 unfolding control
 returns-7 c =
+    let k3· = c .before .before .k3 in
+    let act3· = c .act3 in
+    λ s f st. rw (k3· .given .1) (act3· .ensures s f st)
+
+returns-8 : tie.Need-returns-8
+unfolding control
+returns-8 c =
     let k4· = c .before .before .k4 in
     let position· = c .position in
     λ s f st. rw (k4· .given .1) (position· .ensures s f st)
@@ -70,10 +77,13 @@ control-spec =
     (λ c κs. search needs)
     (λ c. search needs)
     (λ c κs. search needs)
+    (λ c. search needs)
+    (λ c κs. search needs)
     returns
     returns-2
     returns-3
     returns-4
     returns-5
     returns-6
-    returns-7)
+    returns-7
+    returns-8)

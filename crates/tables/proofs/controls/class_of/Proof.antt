@@ -42,61 +42,66 @@ si : tie.Need-returns-9
 unfolding classOf controls
 si c = rw (c .match .keys9)
 
-ss2 : tie.Need-returns-10
+can : tie.Need-returns-10
 unfolding classOf controls
-ss2 c = rw (c .match .keys10)
+can c = rw (c .match .keys10)
 
-substitute : tie.Need-returns-11
+ss2 : tie.Need-returns-11
 unfolding classOf controls
-substitute c = rw (c .match .keys11)
+ss2 c = rw (c .match .keys11)
 
-escapes : tie.Need-returns-12
+substitute : tie.Need-returns-12
 unfolding classOf controls
-escapes c = rw (c .match .keys12)
+substitute c = rw (c .match .keys12)
 
-aps : tie.Need-returns-13
+escapes : tie.Need-returns-13
 unfolding classOf controls
-aps c = rw (c .match .keys13)
+escapes c = rw (c .match .keys13)
 
-ss3 : tie.Need-returns-14
+aps : tie.Need-returns-14
 unfolding classOf controls
-ss3 c = rw (c .match .keys14)
+aps c = rw (c .match .keys14)
 
-aph : tie.Need-returns-15
+ss3 : tie.Need-returns-15
 unfolding classOf controls
-aph c = rw (c .match .keys15)
+ss3 c = rw (c .match .keys15)
 
-nsr : tie.Need-returns-16
+aph : tie.Need-returns-16
 unfolding classOf controls
-nsr c = rw (c .match .keys16)
+aph c = rw (c .match .keys16)
+
+nsr : tie.Need-returns-17
+unfolding classOf controls
+nsr c = rw (c .match .keys17)
 
 -- Stretches
-ignored : tie.Need-returns-17
+ignored : tie.Need-returns-18
 unfolding controls
 ignored c = below Ignored 0 7 (c .before .before .args .b) refl (omega arith) (omega arith) (omega arith)
 
 -- After 0/6 each byte up to 0/15 has an arm of its own
-column-1 : tie.Need-returns-18
+column-1 : tie.Need-returns-19
 unfolding controls
 column-1 c =
     let b = c .before .before .before .args .b in
     let others = c .before .before .match .rest in
-    let from-8 = past 7 b (c .before .if1 .left) (others .0 .0 .0 .0 .0 .0 .0 .0 .0 .0 .0 .0 .0 .0 .0 .1) in
-    let from-9 = past 8 b from-8 (others .0 .0 .0 .0 .0 .0 .0 .0 .0 .0 .0 .0 .0 .0 .1) in
-    let from-10 = past 9 b from-9 (others .0 .0 .0 .0 .0 .0 .0 .0 .0 .0 .0 .0 .0 .1) in
-    let from-11 = past 10 b from-10 (others .0 .0 .0 .0 .0 .0 .0 .0 .0 .0 .0 .0 .1) in
-    let from-12 = past 11 b from-11 (others .0 .0 .0 .0 .0 .0 .0 .0 .0 .0 .0 .1) in
-    let from-13 = past 12 b from-12 (others .0 .0 .0 .0 .0 .0 .0 .0 .0 .0 .1) in
-    let from-14 = past 13 b from-13 (others .0 .0 .0 .0 .0 .0 .0 .0 .0 .1) in
-    let from-15 = past 14 b from-14 (others .0 .0 .0 .0 .0 .0 .0 .0 .1) in
-    let from-16 = past 15 b from-15 (others .0 .0 .0 .0 .0 .0 .0 .1) in
-    below Recorded 16 9 b refl from-16 (c .if2 .taken) (omega arith)
+    let from-8 = past 7 b (c .before .if1 .left) (others .0 .0 .0 .0 .0 .0 .0 .0 .0 .0 .0 .0 .0 .0 .0 .0 .1) in
+    let from-9 = past 8 b from-8 (others .0 .0 .0 .0 .0 .0 .0 .0 .0 .0 .0 .0 .0 .0 .0 .1) in
+    let from-10 = past 9 b from-9 (others .0 .0 .0 .0 .0 .0 .0 .0 .0 .0 .0 .0 .0 .0 .1) in
+    let from-11 = past 10 b from-10 (others .0 .0 .0 .0 .0 .0 .0 .0 .0 .0 .0 .0 .0 .1) in
+    let from-12 = past 11 b from-11 (others .0 .0 .0 .0 .0 .0 .0 .0 .0 .0 .0 .0 .1) in
+    let from-13 = past 12 b from-12 (others .0 .0 .0 .0 .0 .0 .0 .0 .0 .0 .0 .1) in
+    let from-14 = past 13 b from-13 (others .0 .0 .0 .0 .0 .0 .0 .0 .0 .0 .1) in
+    let from-15 = past 14 b from-14 (others .0 .0 .0 .0 .0 .0 .0 .0 .0 .1) in
+    let from-16 = past 15 b from-15 (others .0 .0 .0 .0 .0 .0 .0 .0 .1) in
+    below Recorded 16 8 b refl from-16 (c .if2 .taken) (omega arith)
 
-column-two : tie.Need-returns-19
+column-two : tie.Need-returns-20
 column-two c =
     let b = c .before .before .before .before .args .b in
     let others = c .before .before .before .match .rest in
-    let from-26 = past 25 b (c .before .if2 .left) (others .0 .0 .0 .0 .0 .0 .1) in
+    let from-25 = past 24 b (c .before .if2 .left) (others .0 .0 .0 .0 .0 .0 .0 .1) in
+    let from-26 = past 25 b from-25 (others .0 .0 .0 .0 .0 .0 .1) in
     let from-27 = past 26 b from-26 (others .0 .0 .0 .0 .0 .1) in
     let from-28 = past 27 b from-27 (others .0 .0 .0 .0 .1) in
     let from-29 = past 28 b from-28 (others .0 .0 .0 .1) in
@@ -105,7 +110,7 @@ column-two c =
     let from-32 = past 31 b from-31 (others .1) in
     column-2 b from-32 (c .if3 .taken)
 
-higher : tie.Need-returns-20
+higher : tie.Need-returns-21
 higher c = above (c .before .before .before .before .args .b) (omega arith)
 
 pub class-of-spec : {M : Type 1} → statement M
@@ -121,6 +126,7 @@ class-of-spec =
     apr
     so
     si
+    can
     ss2
     substitute
     escapes
