@@ -1,6 +1,7 @@
 // Operands applied: what a complete operand draws and changes, by its role.
 pub mod colours;
 pub mod domains;
+pub mod increments;
 pub mod texts;
 
 use crate::colours::set_background;
@@ -8,6 +9,7 @@ use crate::colours::set_foreground;
 use crate::colours::set_shade;
 use crate::domains::set_lengths;
 use crate::domains::set_pel;
+use crate::increments::set_step;
 use crate::texts::set_field;
 use crate::texts::set_first;
 use crate::texts::set_second;
@@ -107,6 +109,9 @@ pub fn apply(
         Role::Background => set_background(pen, command, look, at),
         Role::Shade => set_shade(pen, command, look, map, out, at),
         Role::Dropped => no_record(pen, command, look, at),
+        Role::StepSize => set_step(p, pen, command, look, at),
+        Role::LineCodes => no_record(pen, command, look, at),
+        Role::PolygonCodes => no_record(pen, command, look, at),
         _ => draw_point(role, row, p, pen, command, look, out, at),
     }
 }

@@ -9,7 +9,7 @@ use Rattle.rules.specs.declared.Pen.{Pen}
 use Rattle.rules.specs.declared.Point.{Point}
 use Rattle.rules.specs.declared.Record.{Record}
 use Rattle.rules.specs.declared.Role.{Role}
-use Rattle.rules.specs.declared.Role.the-variants.{MoveTo, DrawTo, DrawBy, Middle, ArcEnd, Start, Edge, Lengths, Pel, TextFirst, TextSecond, TextField, TextMore, Foreground, Background, Shade, Dropped}
+use Rattle.rules.specs.declared.Role.the-variants.{MoveTo, DrawTo, DrawBy, Middle, ArcEnd, Start, Edge, StepSize, LineCodes, PolygonCodes, Lengths, Pel, TextFirst, TextSecond, TextField, TextMore, Foreground, Background, Shade, Dropped}
 use Rattle.rules.specs.declared.Row.{Row}
 use Rattle.rules.specs.declared.Set.the-variants.{Pdi}
 use Rattle.rules.specs.declared.Text.{Text}
@@ -39,6 +39,9 @@ point-length Middle k o h = refl
 point-length ArcEnd k o h = refl
 point-length Start k o h = refl
 point-length Edge k o h = refl
+point-length StepSize k o h = false-true h
+point-length LineCodes k o h = false-true h
+point-length PolygonCodes k o h = false-true h
 point-length Lengths k o h = false-true h
 point-length Pel k o h = false-true h
 point-length TextFirst k o h = false-true h

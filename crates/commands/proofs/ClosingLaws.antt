@@ -12,7 +12,7 @@ use Rattle.rules.specs.declared.Mode.the-variants.{Direct}
 use Rattle.rules.specs.declared.Drawing.{Drawing}
 use Rattle.rules.specs.declared.Row.{Row}
 use Rattle.rules.specs.declared.Role.{Role}
-use Rattle.rules.specs.declared.Role.the-variants.{MoveTo, DrawTo, DrawBy, Middle, ArcEnd, Start, Edge, Lengths, Pel, TextFirst, TextSecond, TextField, TextMore, Foreground, Background, Shade, Dropped}
+use Rattle.rules.specs.declared.Role.the-variants.{MoveTo, DrawTo, DrawBy, Middle, ArcEnd, Start, Edge, StepSize, LineCodes, PolygonCodes, Lengths, Pel, TextFirst, TextSecond, TextField, TextMore, Foreground, Background, Shade, Dropped}
 use Rattle.rules.specs.Text.{closeText}
 use Rattle.rules.specs.Numbers.{recordSize, origin}
 use Rattle.rules.specs.Drawing.{rowOf, withPen, withCommand, withOperand, withMode, noOperand, Outcome, NotDrawn, Draw, prepend, andThen, arcTo, roleDue, applyBegun, complete, closingEdge, finish, newCommand, close}
@@ -72,7 +72,7 @@ module _ (n : Role) (filled : Bool) (p : Pen) (c : Command) (k : Look) (m : List
 
 -- The roles of TEXT's operands but the first three, and every other
 abbrev apart : List ℕ
-apart = 0 ∷ 1 ∷ 2 ∷ 3 ∷ 4 ∷ 5 ∷ 6 ∷ 7 ∷ 8 ∷ 12 ∷ 13 ∷ 14 ∷ 15 ∷ 16 ∷ []
+apart = 0 ∷ 1 ∷ 2 ∷ 3 ∷ 4 ∷ 5 ∷ 6 ∷ 7 ∷ 8 ∷ 9 ∷ 10 ∷ 11 ∷ 15 ∷ 16 ∷ 17 ∷ 18 ∷ 19 ∷ []
 
 pub text-past : (n : Role) (filled : Bool) (d : Drawing) → OneOf apart (tagOf the-role n) → finishesApart n ≡ true → (n ≡ Foreground → ⊥)
     → finish n filled d ≡ Draw (withPen (closeText Past (d .pen)) d) []
@@ -84,11 +84,14 @@ text-past Middle filled d k h f = false-true h
 text-past ArcEnd filled d k h f = false-true h
 text-past Start filled d k h f = false-true h
 text-past Edge filled d k h f = false-true h
+text-past StepSize filled d k h f = false-true h
+text-past LineCodes filled d k h f = false-true h
+text-past PolygonCodes filled d k h f = false-true h
 text-past Lengths filled d k h f = false-true h
 text-past Pel filled d k h f = false-true h
-text-past TextFirst filled d k h f = absurd (miss apart 9 tt k)
-text-past TextSecond filled d k h f = absurd (miss apart 10 tt k)
-text-past TextField filled d k h f = absurd (miss apart 11 tt k)
+text-past TextFirst filled d k h f = absurd (miss apart 12 tt k)
+text-past TextSecond filled d k h f = absurd (miss apart 13 tt k)
+text-past TextField filled d k h f = absurd (miss apart 14 tt k)
 text-past TextMore filled d k h f = refl
 text-past Foreground filled d k h f = absurd (f refl)
 text-past Background filled d k h f = false-true h
@@ -97,10 +100,10 @@ text-past Dropped filled d k h f = false-true h
 
 -- Roles but Foreground
 abbrev unlike : List ℕ
-unlike = 0 ∷ 1 ∷ 2 ∷ 3 ∷ 4 ∷ 5 ∷ 6 ∷ 7 ∷ 8 ∷ 9 ∷ 10 ∷ 11 ∷ 12 ∷ 14 ∷ 15 ∷ 16 ∷ []
+unlike = 0 ∷ 1 ∷ 2 ∷ 3 ∷ 4 ∷ 5 ∷ 6 ∷ 7 ∷ 8 ∷ 9 ∷ 10 ∷ 11 ∷ 12 ∷ 13 ∷ 14 ∷ 15 ∷ 17 ∷ 18 ∷ 19 ∷ []
 
 pub not-foreground : (n : Role) → OneOf unlike (tagOf the-role n) → n ≡ Foreground → ⊥
-not-foreground n k e = miss unlike 13 tt (rw e at k)
+not-foreground n k e = miss unlike 16 tt (rw e at k)
 
 -- After the begun operand closing refuses no more
 then-draws : (o : Outcome) (k : Drawing → Outcome) → Draws o → ((e : Drawing) → Draws (k e)) → Draws (andThen o k)

@@ -70,8 +70,8 @@ pub fn new_command(opcode: u8, point: Point) -> Command
         due: Due::First,
         vertices: 1,
         start: point,
-        middle: ORIGIN,
-        wrapped: false,
+        kept: ORIGIN,
+        noted: false,
     }
 }
 

@@ -5,7 +5,7 @@ use Rattle.rules.specs.declared.Pen.{Pen}
 use Rattle.rules.specs.declared.Row.{Row}
 use Rattle.rules.specs.declared.Role.{Role}
 use Rattle.rules.specs.Operands.{begun}
-use Rattle.rules.specs.Drawing.{lengthOf, withPen, Outcome, NotDrawn, Draw, apply, nextOperand, roleDue, applyBegun, withByte, takeByte, dataByte}
+use Rattle.rules.specs.Drawing.{lengthOf, withPen, Outcome, NotDrawn, Draw, apply, nextOperand, roleDue, applyBegun, withByte, looseByte, takeByte, dataByte}
 use Rattle.rules.proofs.Bools.{false-true, pick-yes, pick-no}
 use Rattle.figures.specs.Carried.{Carried, carry, drawingOf}
 use Rattle.figures.proofs.Carrying.{then-refused, then-drawn}
@@ -46,10 +46,12 @@ module _ (r : Row) (b : ℕ) (d : Drawing) (at : ℕ) (l : List ℕ) (x : Role) 
   unfolding dataByte
   data-due = ap (λ (k : ℕ). takeByte k r b d) (ap (λ (y : Role). lengthOf y (d .look .domain)) (sym e) ∙ sym f)
 
-  -- It is dropped
-  pub data-dropped : n ≡ 0 → carry (Draw d []) d at l ≡ carry (dataByte r b d) d at l
+  -- It makes none
+  pub data-loose : n ≡ 0 → carry (looseByte x (r .filled) b d) d at l ≡ carry (dataByte r b d) d at l
   unfolding takeByte
-  data-dropped h = ap (λ (o : Outcome). carry o d at l) (sym (data-due ∙ pick-yes _ _ (eq-eqb n 0 h)))
+  data-loose h =
+      ap (λ (y : Role). carry (looseByte y (r .filled) b d) d at l) e
+      ∙ ap (λ (o : Outcome). carry o d at l) (sym (data-due ∙ pick-yes _ _ (eq-eqb n 0 h)))
 
   -- Joined to the operand of the pen p
   module _ (p : Pen) (j : p ≡ withByte b d .pen) (h : n ≡ 0 → ⊥) where

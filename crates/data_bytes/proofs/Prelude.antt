@@ -1,7 +1,7 @@
 -- What the files of this crate use of the libraries, under one name
-pub use mathlib.Core.Path.{_≡_, sym, ap, _∙_}
-pub use mathlib.Core.Bool.{true, false}
-pub use mathlib.Core.List.{List, []}
+pub use mathlib.Core.Path.{_≡_, refl, sym, ap, _∙_}
+pub use mathlib.Core.Bool.{Bool, true, false}
+pub use mathlib.Core.List.{List, [], _∷_}
 pub use Prim.Native.Nat.{ℕ, _≤_, suc, _<_}
 pub use native.Mathlib.Numerals.{add-one}
 pub use native.Mathlib.Omega.{arith}

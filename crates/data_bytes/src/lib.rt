@@ -5,9 +5,11 @@ use figures::answers::no_record;
 use opcodes::due_after;
 use opcodes::length_of;
 use opcodes::role_of;
+use outlines::draw_codes;
 use rules::Command;
 use rules::Look;
 use rules::Operand;
+use rules::Outline;
 use rules::Pen;
 use rules::Role;
 use rules::Row;
@@ -15,9 +17,9 @@ ghost use mathlib.Core.Path.{_≡_};
 ghost use mathlib.Core.List.{[]};
 ghost use Prim.Native.Nat.{suc, _+_, _<_, _≤_};
 ghost use lib.ListN.{length, set};
-ghost use Rattle.rules.specs.Numbers.{recordSize};
-ghost use Rattle.rules.specs.Drawing.{roleOf, dueAfter, withDue, noOperand, Draw, nextOperand, applyBegun, dataByte};
-ghost use Rattle.figures.specs.Carried.{carryOut, drawingOf, carriedOf, ChangesBy};
+ghost use Rattle.rules.specs.Numbers.{recordSize, roomForStep, mostVertices};
+ghost use Rattle.rules.specs.Drawing.{roleOf, dueAfter, withDue, noOperand, Draw, nextOperand, applyBegun, looseByte, dataByte};
+ghost use Rattle.figures.specs.Carried.{carryOut, drawingOf, carriedOf, DrawsBy, ChangesBy};
 
 // The pen with no operand begun.
 pub fn resting(pen: Pen) -> Pen
@@ -53,14 +55,14 @@ pub fn with_due(row: Row, command: Command) -> Command
     let due = command.due;
     let due = due_after(pattern, due);
     let start = command.start;
-    let middle = command.middle;
+    let kept = command.kept;
     Command {
         opcode: command.opcode,
         due,
         vertices: command.vertices,
         start,
-        middle,
-        wrapped: command.wrapped,
+        kept,
+        noted: command.noted,
     }
 }
 
@@ -120,7 +122,31 @@ fn join_byte(pen: Pen, byte: u8) -> Pen
     }
 }
 
-// A byte is dropped, joins the operand, or is its last and applies it. A refused byte has not joined.
+// Data that makes no operand: the codes of an incremental command; other data is dropped.
+fn loose_byte(
+    row: Row,
+    role: Role,
+    byte: u8,
+    pen: Pen,
+    command: Command,
+    look: Look,
+    out: &mut [u8],
+    at: usize,
+) -> Drawn
+    requires { ⌜ (role ≡ roleOf (row .pattern) (command .due)) × (command .vertices ≤ mostVertices) × (at + roomForStep ≤ length (now out)) ⌝ }
+    ensures { λ r. ⌜ DrawsBy (looseByte role (row .filled) byte) pen command look at (now (out .entry)) r (now (out .exit)) ⌝ }
+{
+    let filled = row.filled;
+    match role {
+        Role::LineCodes => draw_codes(Outline::Line, filled, byte, pen, command, look, out, at),
+        Role::PolygonCodes => {
+            draw_codes(Outline::Polygon, filled, byte, pen, command, look, out, at)
+        }
+        _ => no_record(pen, command, look, at),
+    }
+}
+
+// A byte makes no operand, joins the one that is due, or is its last and applies it. A refused byte has not joined.
 pub fn data_byte(
     row: Row,
     byte: u8,
@@ -131,14 +157,15 @@ pub fn data_byte(
     out: &mut [u8],
     at: usize,
 ) -> Drawn
-    requires { ⌜ (pen .operand .count < 8) × (look .colour .foreground ≤ 15) × (at + recordSize ≤ length (now out)) ⌝ }
+    requires { ⌜ (pen .operand .count < 8) × (look .colour .foreground ≤ 15) × (command .vertices ≤ mostVertices)
+        × (at + roomForStep ≤ length (now out)) ⌝ }
     ensures { λ r. ⌜ carriedOf r (now (map .exit)) (now (out .exit))
         ≡ carryOut (dataByte row byte) (drawingOf pen command look (now (map .entry))) at (now (out .entry)) ⌝ }
 {
     let role = role_due(row, command);
     let bytes_due = length_of(role, look.domain);
     if bytes_due == 0 {
-        return no_record(pen, command, look, at);
+        return loose_byte(row, role, byte, pen, command, look, out, at);
     }
     let longer = join_byte(pen, byte);
     if longer.operand.count < bytes_due {

@@ -3,10 +3,12 @@ use Rattle.drawing.proofs.Prelude.{ℕ, _≤_, _<_, arith, _≡_, true,
 use Rattle.rules.specs.declared.Domain.{Domain}
 use Rattle.rules.specs.declared.Drawing.{Drawing}
 use Rattle.rules.specs.declared.Role.{Role}
-use Rattle.rules.specs.declared.Role.the-variants.{MoveTo, DrawTo, DrawBy, Middle, ArcEnd, Start, Edge, Lengths, Pel, TextFirst, TextSecond, TextField, TextMore, Foreground, Background, Shade, Dropped}
+use Rattle.rules.specs.declared.Role.the-variants.{MoveTo, DrawTo, DrawBy, Middle, ArcEnd, Start, Edge, StepSize, LineCodes, PolygonCodes, Lengths, Pel, TextFirst, TextSecond, TextField, TextMore, Foreground, Background, Shade, Dropped}
+use Rattle.rules.specs.Numbers.{mostVertices}
 use Rattle.rules.specs.Drawing.{rowOf, lengthOf, roleDue}
-use Rattle.rules.specs.Ranges.{domainFits, colourFits, commandFits, begunFits, drawingFits}
+use Rattle.rules.specs.Ranges.{domainFits, colourFits, opcodeFits, verticesFit, commandFits, begunFits, drawingFits}
 use Rattle.rules.proofs.Bools.{and-left, and-right, by-test}
+use Rattle.rules.proofs.DrawingRanges.{valid-command}
 
 -- No operand is longer than the longer of the two lengths
 length-most : (x : Role) (o : Domain) → o .single ≤ 8 → o .multi ≤ 8 → lengthOf x o ≤ 8
@@ -18,6 +20,9 @@ length-most Middle o s m = m
 length-most ArcEnd o s m = m
 length-most Start o s m = m
 length-most Edge o s m = m
+length-most StepSize o s m = m
+length-most LineCodes o s m = omega arith
+length-most PolygonCodes o s m = omega arith
 length-most Lengths o s m = omega arith
 length-most Pel o s m = m
 length-most TextFirst o s m = omega arith
@@ -59,6 +64,12 @@ count-most d e =
     begun-most (d .pen .operand .count) (lengthDue d)
     (operand-most (roleDue (rowOf (d .command .opcode)) d) (d .look .domain) (and-left o (c && (x && t)) e))
     (and-right x t (and-right c (x && t) (and-right o (c && (x && t)) e)))
+
+-- The vertices are within their limit
+pub vertices-most : (d : Drawing) → drawingFits d ≡ true → d .command .vertices ≤ mostVertices
+unfolding commandFits verticesFit
+vertices-most d e =
+    leb-true (d .command .vertices) mostVertices (and-right (leb 1 (d .command .vertices)) _ (and-right (opcodeFits (d .command .opcode)) _ (valid-command d e)))
 
 -- The foreground is one of 16 addresses
 pub foreground-most : (d : Drawing) → drawingFits d ≡ true → d .look .colour .foreground ≤ 15

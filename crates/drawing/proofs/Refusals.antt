@@ -1,21 +1,24 @@
 -- The drawing rules refuse with TooManyVertices only; closing refuses before it finishes.
-use Rattle.drawing.proofs.Prelude.{_≡_, refl, Bool, List, ℕ, suc, ltb, eqb}
+use Rattle.drawing.proofs.Prelude.{_≡_, refl, Bool, List, [], _∷_, ℕ, suc, ltb, eqb}
 use Rattle.rules.specs.declared.Action.{Action}
 use Rattle.rules.specs.declared.Action.the-variants.{Idle, Close, Control, Cancel, Format, Reset, Position, Character, Opcode, Data}
 use Rattle.rules.specs.declared.Mode.{Mode}
 use Rattle.rules.specs.declared.Mode.the-variants.{Direct, Mapped, TwoColour}
+use Rattle.rules.specs.declared.Outline.{Outline}
 use Rattle.rules.specs.declared.Point.{Point}
 use Rattle.rules.specs.declared.Drawing.{Drawing}
 use Rattle.rules.specs.declared.Row.{Row}
 use Rattle.rules.specs.declared.Role.{Role}
-use Rattle.rules.specs.declared.Role.the-variants.{MoveTo, DrawTo, DrawBy, Middle, ArcEnd, Start, Edge, Lengths, Pel, TextFirst, TextSecond, TextField, TextMore, Foreground, Background, Shade, Dropped}
+use Rattle.rules.specs.declared.Role.the-variants.{MoveTo, DrawTo, DrawBy, Middle, ArcEnd, Start, Edge, StepSize, LineCodes, PolygonCodes, Lengths, Pel, TextFirst, TextSecond, TextField, TextMore, Foreground, Background, Shade, Dropped}
 use Rattle.rules.specs.declared.Refusal.the-variants.{TooManyVertices}
 use Rattle.rules.specs.Numbers.{mostVertices}
 use Rattle.rules.specs.Operands.{begun}
+use Rattle.rules.specs.Increments.{codes}
 use Rattle.rules.specs.Drawing.{rowOf, lengthOf, Outcome, NotDrawn, Draw, prepend, andThen}
-use Rattle.rules.specs.Drawing.{drawFigure, arcMiddle, arcTo, edgeBy, shadeMap, shadeTo, apply, roleDue, applyBegun}
+use Rattle.rules.specs.Drawing.{drawFigure, arcMiddle, arcTo, edgeBy, applyCode, applyCodes, shadeMap, shadeTo, apply, roleDue, applyBegun}
 use Rattle.rules.specs.Drawing.{withByte, takeByte, dataByte, complete, finish, close, openCommand, act}
 use Rattle.rules.proofs.Bools.{pick-all}
+use Rattle.rules.proofs.DrawingRanges.{code-all, loose-all}
 use Rattle.figures.proofs.Carrying.{Draws}
 use Rattle.commands.proofs.ClosingLaws.{finish-draws}
 
@@ -58,6 +61,9 @@ apply-vertices Middle r bs d = tt
 apply-vertices ArcEnd r bs d = tt
 apply-vertices Start r bs d = tt
 apply-vertices Edge r bs d = edge-vertices (r .filled) _ d
+apply-vertices StepSize r bs d = tt
+apply-vertices LineCodes r bs d = tt
+apply-vertices PolygonCodes r bs d = tt
 apply-vertices Lengths r bs d = tt
 apply-vertices Pel r bs d = tt
 apply-vertices TextFirst r bs d = tt
@@ -73,11 +79,19 @@ begun-vertices : (r : Row) (d : Drawing) → OnlyVertices (applyBegun r d)
 unfolding applyBegun
 begun-vertices r d = then-vertices (apply (roleDue r d) r (begun (d .pen .operand)) d) _ (apply-vertices (roleDue r d) r _ d) (λ e. tt)
 
+codes-vertices : (o : Outline) (filled : Bool) (cs : List ℕ) (d : Drawing) → OnlyVertices (applyCodes o filled cs d)
+unfolding applyCodes
+codes-vertices o filled [] d = tt
+codes-vertices o filled (c ∷ cs) d =
+    then-vertices (applyCode o filled c d) _
+    (code-all OnlyVertices o filled c d tt (λ kind. figure-vertices kind filled _ _ d, edge-vertices filled _ d)) (codes-vertices o filled cs)
+
 data-vertices : (r : Row) (b : ℕ) (d : Drawing) → OnlyVertices (dataByte r b d)
 unfolding dataByte takeByte
 data-vertices r b d =
     let n = lengthOf (roleDue r d) (d .look .domain) in
-    pick-all OnlyVertices (eqb n 0) tt
+    pick-all OnlyVertices (eqb n 0)
+    (loose-all OnlyVertices (roleDue r d) (r .filled) b d tt (λ o. codes-vertices o (r .filled) (codes b) d))
     (pick-all OnlyVertices (ltb (suc (d .pen .operand .count)) n) tt (begun-vertices r (withByte b d)))
 
 draws-vertices : (o : Outcome) → Draws o → OnlyVertices o

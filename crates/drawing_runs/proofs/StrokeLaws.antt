@@ -76,7 +76,7 @@ module _ (bytes : List ℕ) (from n : ℕ) (q : Point) (h : from + n + 3 ≤ len
       ∙ draws o in
       let same : withDue First c ≡ c =
       let e = sym (ready .due) in
-      λ i. record { opcode = c .opcode; due = e i; vertices = c .vertices; start = c .start; middle = c .middle; wrapped = c .wrapped } in
+      λ i. record { opcode = c .opcode; due = e i; vertices = c .vertices; start = c .start; kept = c .kept; noted = c .noted } in
       let after : nextOperand A (withPoint q d) ≡ drawingOf (penAfter (n + 3) true p₀ q) c l m =
       ap (λ (e : Command). drawingOf (rested (follow q p)) e l m) same ∙ ap (λ (y : Pen). drawingOf y c l m) moved in
       subst (λ (e : Drawing). Run Pdi bytes from x (n + 3) (carry (Draw e rs) d at out))

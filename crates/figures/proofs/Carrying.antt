@@ -1,9 +1,10 @@
 -- Outcomes carried out
-use Rattle.figures.specs.Prelude.{_≡_, refl, sym, ap, _∙_, true, false, List, [], _∷_, append-nil, ℕ, _+_, _*_, _≤_, add-zero, add-assoc, arith, length, length-append}
+use Rattle.figures.specs.Prelude.{_≡_, refl, sym, ap, _∙_, true, false, List, [], _∷_, _++_, append-nil, ℕ, _+_, _*_, _≤_, add-zero, add-assoc, arith, length, length-append}
 use Rattle.rules.specs.declared.Drawing.{Drawing}
 use Rattle.rules.specs.declared.Record.{Record}
 use Rattle.rules.specs.Record.{bytesOf, bytesOfAll}
 use Rattle.rules.specs.Drawing.{Outcome, NotDrawn, Draw, prepend, andThen}
+pub use Rattle.rules.specs.Statements.{Draws}
 use Rattle.rules.proofs.RecordCount.{record-length, records-length, records-append, AtMost}
 use Rattle.records.specs.Bytes.{overwrite}
 use Rattle.records.proofs.Writes.{overwrite-none, overwrite-length, overwrite-next}
@@ -28,6 +29,12 @@ pub puts-one : (r : Record) (at : ℕ) (out out′ : List ℕ) → out′ ≡ ov
 unfolding bytesOfAll
 puts-one r at out out′ w = rw (append-nil (bytesOf r), record-length r) (refl, w)
 
+-- Records written after others
+pub puts-then : (rs qs : List Record) (at mid end : ℕ) (out between left : List ℕ) → at ≤ length out
+    → Puts rs at out mid between → Puts qs mid between end left → Puts (rs ++ qs) at out end left
+puts-then rs qs at mid end out between left h p q =
+    (q .0 ∙ ap (λ (n : ℕ). n + length (bytesOfAll qs)) (p .0) ∙ add-assoc at (length (bytesOfAll rs)) (length (bytesOfAll qs)) ∙ ap (λ (n : ℕ). at + n) (sym (length-append (bytesOfAll rs) (bytesOfAll qs))) ∙ ap (λ (bs : List ℕ). at + length bs) (sym (records-append rs qs)), q .1 ∙ (λ i. overwrite (p .0 i) (bytesOfAll qs) (p .1 i)) ∙ overwrite-next (bytesOfAll rs) (bytesOfAll qs) out at h ∙ ap (λ (bs : List ℕ). overwrite at bs out) (sym (records-append rs qs)))
+
 -- Records written are carried out
 pub puts-carried : {o : Outcome} {rs : List Record} (d e : Drawing) (at at′ : ℕ) (out out′ : List ℕ) → o ≡ Draw e rs → Puts rs at out at′ out′
     → record { refused = false; drawing = e; at = at′; output = out′ } ≡ carry o d at out
@@ -39,11 +46,6 @@ puts-carried d e at at′ out out′ h w =
 pub drawn-by : {x : Carried} {e : Drawing} {rs : List Record} {o : Outcome} (d : Drawing) (at : ℕ) (out : List ℕ) → x ≡ carry (Draw e rs) e at out → o ≡ Draw e rs → x ≡ carry o d at out
 unfolding carry
 drawn-by d at out p q = p ∙ ap (λ (y : Outcome). carry y d at out) (sym q)
-
--- Outcomes that are no refusals
-abbrev pub Draws : Outcome → Type 0
-Draws (NotDrawn r) = ⊥
-Draws (Draw d rs) = Unit {0}
 
 -- Of two outcomes, the second from where the first ended
 pub carry-then : (e : Drawing) (rs : List Record) (k : Drawing → Outcome) (d : Drawing) (at : ℕ) (out : List ℕ)

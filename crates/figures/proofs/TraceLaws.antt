@@ -10,7 +10,7 @@ use Rattle.rules.specs.declared.Operand.{Operand}
 use Rattle.rules.specs.declared.Point.{Point}
 use Rattle.rules.specs.declared.Refusal.the-variants.{TooManyVertices}
 use Rattle.rules.specs.declared.Role.{Role}
-use Rattle.rules.specs.declared.Role.the-variants.{MoveTo, DrawTo, DrawBy, Middle, ArcEnd, Start, Edge, Lengths, Pel, TextFirst, TextSecond, TextField, TextMore, Foreground, Background, Shade, Dropped}
+use Rattle.rules.specs.declared.Role.the-variants.{MoveTo, DrawTo, DrawBy, Middle, ArcEnd, Start, Edge, StepSize, LineCodes, PolygonCodes, Lengths, Pel, TextFirst, TextSecond, TextField, TextMore, Foreground, Background, Shade, Dropped}
 use Rattle.rules.specs.declared.Row.{Row}
 use Rattle.rules.specs.declared.Text.{Text}
 use Rattle.rules.specs.Numbers.{mostVertices, origin}
@@ -71,7 +71,7 @@ module _ (kind : ℕ) (filled w : Bool) (q p : Point) (t : Text) (o : Operand) (
 
 -- The roles that are left after those with a case of their own
 abbrev others : List ℕ
-others = 1 ∷ 2 ∷ 7 ∷ 8 ∷ 9 ∷ 10 ∷ 11 ∷ 12 ∷ 13 ∷ 14 ∷ 15 ∷ 16 ∷ []
+others = 1 ∷ 2 ∷ 7 ∷ 8 ∷ 9 ∷ 10 ∷ 11 ∷ 12 ∷ 13 ∷ 14 ∷ 15 ∷ 16 ∷ 17 ∷ 18 ∷ 19 ∷ []
 
 pub edge-room : (n : Role) (k : ℕ) → n ≡ Edge → isPoint n k ≡ true → k < mostVertices
 unfolding isPoint
@@ -79,7 +79,7 @@ edge-room n k h e = ltb-true k mostVertices (rw h at e)
 
 -- The roles that are not counted from the drawing point
 abbrev absolutes : List ℕ
-absolutes = 0 ∷ 1 ∷ 5 ∷ 7 ∷ 8 ∷ 9 ∷ 10 ∷ 11 ∷ 12 ∷ 13 ∷ 14 ∷ 15 ∷ 16 ∷ []
+absolutes = 0 ∷ 1 ∷ 5 ∷ 7 ∷ 8 ∷ 9 ∷ 10 ∷ 11 ∷ 12 ∷ 13 ∷ 14 ∷ 15 ∷ 16 ∷ 17 ∷ 18 ∷ 19 ∷ []
 
 pub not-relative : (n : Role) → OneOf absolutes (tagOf the-role n) → false ≡ isRelative n
 unfolding isRelative
@@ -90,6 +90,9 @@ not-relative Middle k = absurd (miss absolutes 3 tt k)
 not-relative ArcEnd k = absurd (miss absolutes 4 tt k)
 not-relative Start k = refl
 not-relative Edge k = absurd (miss absolutes 6 tt k)
+not-relative StepSize k = refl
+not-relative LineCodes k = refl
+not-relative PolygonCodes k = refl
 not-relative Lengths k = refl
 not-relative Pel k = refl
 not-relative TextFirst k = refl
@@ -103,7 +106,7 @@ not-relative Dropped k = refl
 
 -- The roles that are no points
 abbrev pointless : List ℕ
-pointless = 7 ∷ 8 ∷ 9 ∷ 10 ∷ 11 ∷ 12 ∷ 13 ∷ 14 ∷ 15 ∷ 16 ∷ []
+pointless = 7 ∷ 8 ∷ 9 ∷ 10 ∷ 11 ∷ 12 ∷ 13 ∷ 14 ∷ 15 ∷ 16 ∷ 17 ∷ 18 ∷ 19 ∷ []
 
 pub not-point : (n : Role) (v : ℕ) → OneOf pointless (tagOf the-role n) → false ≡ isPoint n v
 unfolding isPoint
@@ -114,6 +117,9 @@ not-point Middle v k = absurd (miss pointless 3 tt k)
 not-point ArcEnd v k = absurd (miss pointless 4 tt k)
 not-point Start v k = absurd (miss pointless 5 tt k)
 not-point Edge v k = absurd (miss pointless 6 tt k)
+not-point StepSize v k = refl
+not-point LineCodes v k = refl
+not-point PolygonCodes v k = refl
 not-point Lengths v k = refl
 not-point Pel v k = refl
 not-point TextFirst v k = refl
@@ -135,6 +141,9 @@ refused-point Middle row bs d h k = true-false k
 refused-point ArcEnd row bs d h k = true-false k
 refused-point Start row bs d h k = true-false k
 refused-point Edge row bs d h k = pick-no _ _ k
+refused-point StepSize row bs d h k = false-true h
+refused-point LineCodes row bs d h k = false-true h
+refused-point PolygonCodes row bs d h k = false-true h
 refused-point Lengths row bs d h k = false-true h
 refused-point Pel row bs d h k = false-true h
 refused-point TextFirst row bs d h k = false-true h
@@ -164,16 +173,19 @@ point-role Middle k = refl
 point-role ArcEnd k = refl
 point-role Start k = refl
 point-role Edge k = refl
-point-role Lengths k = absurd (miss points 7 tt k)
-point-role Pel k = absurd (miss points 8 tt k)
-point-role TextFirst k = absurd (miss points 9 tt k)
-point-role TextSecond k = absurd (miss points 10 tt k)
-point-role TextField k = absurd (miss points 11 tt k)
-point-role TextMore k = absurd (miss points 12 tt k)
-point-role Foreground k = absurd (miss points 13 tt k)
-point-role Background k = absurd (miss points 14 tt k)
-point-role Shade k = absurd (miss points 15 tt k)
-point-role Dropped k = absurd (miss points 16 tt k)
+point-role StepSize k = absurd (miss points 7 tt k)
+point-role LineCodes k = absurd (miss points 8 tt k)
+point-role PolygonCodes k = absurd (miss points 9 tt k)
+point-role Lengths k = absurd (miss points 10 tt k)
+point-role Pel k = absurd (miss points 11 tt k)
+point-role TextFirst k = absurd (miss points 12 tt k)
+point-role TextSecond k = absurd (miss points 13 tt k)
+point-role TextField k = absurd (miss points 14 tt k)
+point-role TextMore k = absurd (miss points 15 tt k)
+point-role Foreground k = absurd (miss points 16 tt k)
+point-role Background k = absurd (miss points 17 tt k)
+point-role Shade k = absurd (miss points 18 tt k)
+point-role Dropped k = absurd (miss points 19 tt k)
 
 -- An operand of a role whose point is v, and the figure g
 module _ (n : Role) (row : Row) (bs : List ℕ) (v q : Point) (w : Bool) (p : Point) (t : Text) (o : Operand) (c : Command) (l : Look) (m : List ℕ)
@@ -183,7 +195,7 @@ module _ (n : Role) (row : Row) (bs : List ℕ) (v q : Point) (w : Bool) (p : Po
     unfolding apply isRelative figureRecords
     trace-move h i = rw (i, a, h, e)
 
-    pub trace-start : n ≡ Start → g ≡ spanFigure 0 f p q → (s : Command) → s ≡ withStart q (c .middle) (c .wrapped) c
+    pub trace-start : n ≡ Start → g ≡ spanFigure 0 f p q → (s : Command) → s ≡ withStart q (c .kept) (c .noted) c
         → apply n row bs (drawingOf (penAt p t o) c l m) ≡ Draw (drawingOf (follow q (penAt p t o)) s l m) (figureRecords l g)
     unfolding apply isRelative figureRecords
     trace-start h i s j = rw (i, j, a, h, e)
@@ -219,6 +231,9 @@ module _ (n : Role) (row : Row) (bs : List ℕ) (v q : Point) (w : Bool) (p : Po
       by ArcEnd a b k z = absurd (miss others 4 tt k)
       by Start a b k z = absurd (miss others 5 tt k)
       by Edge a b k z = absurd (miss others 6 tt k)
+      by StepSize a b k z = false-true z
+      by LineCodes a b k z = false-true z
+      by PolygonCodes a b k z = false-true z
       by Lengths a b k z = false-true z
       by Pel a b k z = false-true z
       by TextFirst a b k z = false-true z

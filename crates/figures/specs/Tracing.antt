@@ -8,7 +8,7 @@ use Rattle.rules.specs.declared.Pen.{Pen}
 use Rattle.rules.specs.declared.Point.{Point}
 use Rattle.rules.specs.declared.Record.{Record}
 use Rattle.rules.specs.declared.Role.{Role}
-use Rattle.rules.specs.declared.Role.the-variants.{MoveTo, DrawTo, DrawBy, Middle, ArcEnd, Start, Edge, Lengths, Pel, TextFirst, TextSecond, TextField, TextMore, Foreground, Background, Shade, Dropped}
+use Rattle.rules.specs.declared.Role.the-variants.{MoveTo, DrawTo, DrawBy, Middle, ArcEnd, Start, Edge, StepSize, LineCodes, PolygonCodes, Lengths, Pel, TextFirst, TextSecond, TextField, TextMore, Foreground, Background, Shade, Dropped}
 use Rattle.rules.specs.declared.Text.{Text}
 use Rattle.rules.specs.Numbers.{mostVertices, origin}
 use Rattle.rules.specs.Choice.{pick}
@@ -46,7 +46,7 @@ spanFigure kind marks p q = record { kind = kind; flags = marks; p0 = p; p1 = q;
 -- The arc to q by the start and the middle that a command keeps
 abbrev pub arcFigure : Bool → Bool → Point → Command → Figure
 arcFigure filled w q c =
-    record { kind = 3; flags = flags filled (c .wrapped || w) false; p0 = c .start; p1 = c .middle; p2 = q }
+    record { kind = 3; flags = flags filled (c .noted || w) false; p0 = c .start; p1 = c .kept; p2 = q }
 
 -- A rule draws a figure: from the drawing point p with c open it moves to the drawing point q, or moves not, with c′ open, whatever
 -- the text is and whatever is begun
@@ -64,6 +64,9 @@ finishesApart Middle = false
 finishesApart ArcEnd = false
 finishesApart Start = false
 finishesApart Edge = false
+finishesApart StepSize = false
+finishesApart LineCodes = false
+finishesApart PolygonCodes = false
 finishesApart Lengths = false
 finishesApart Pel = false
 finishesApart TextFirst = true
@@ -75,6 +78,29 @@ finishesApart Background = false
 finishesApart Shade = false
 finishesApart Dropped = false
 
+-- The roles due of a command that draws a polygon, once its start is known: an edge closes it
+unfoldable pub isPolygon : Role → Bool
+isPolygon MoveTo = false
+isPolygon DrawTo = false
+isPolygon DrawBy = false
+isPolygon Middle = false
+isPolygon ArcEnd = false
+isPolygon Start = false
+isPolygon Edge = true
+isPolygon StepSize = false
+isPolygon LineCodes = false
+isPolygon PolygonCodes = true
+isPolygon Lengths = false
+isPolygon Pel = false
+isPolygon TextFirst = false
+isPolygon TextSecond = false
+isPolygon TextField = false
+isPolygon TextMore = false
+isPolygon Foreground = false
+isPolygon Background = false
+isPolygon Shade = false
+isPolygon Dropped = false
+
 -- The operands that are counted from the drawing point
 unfoldable pub isRelative : Role → Bool
 isRelative MoveTo = false
@@ -84,6 +110,9 @@ isRelative Middle = true
 isRelative ArcEnd = true
 isRelative Start = false
 isRelative Edge = true
+isRelative StepSize = false
+isRelative LineCodes = false
+isRelative PolygonCodes = false
 isRelative Lengths = false
 isRelative Pel = false
 isRelative TextFirst = false
@@ -111,6 +140,9 @@ isPoint Middle n = true
 isPoint ArcEnd n = true
 isPoint Start n = true
 isPoint Edge n = ltb n mostVertices
+isPoint StepSize n = false
+isPoint LineCodes n = false
+isPoint PolygonCodes n = false
 isPoint Lengths n = false
 isPoint Pel n = false
 isPoint TextFirst n = false

@@ -11,7 +11,7 @@ ghost use mathlib.Core.Path.{_≡_};
 ghost use mathlib.Core.Bool.{false};
 ghost use Rattle.rules.specs.declared.Look.{Look};
 ghost use Rattle.rules.specs.Drawing.{finish};
-ghost use Rattle.figures.specs.Tracing.{DrawsFigure, finishesApart};
+ghost use Rattle.figures.specs.Tracing.{DrawsFigure, finishesApart, isPolygon};
 
 // The figure that finishes a command, then the drawing point, and whether it was moved.
 pub struct Finished {
@@ -34,6 +34,17 @@ pub fn finishes_apart(role: Role) -> bool
     }
 }
 
+// Whether a command draws a polygon, by the operand that is due.
+fn is_polygon(role: Role) -> bool
+    ensures { λ r. ⌜ r ≡ isPolygon role ⌝ }
+{
+    match role {
+        Role::Edge => true,
+        Role::PolygonCodes => true,
+        _ => false,
+    }
+}
+
 // Finishes by the operand that is due, at the drawing point p: an arc with a middle but no end is a circle, a polygon with an
 // edge has one that closes it.
 pub fn finish(role: Role, row: Row, p: Point, command: Command) -> Finished
@@ -51,14 +62,15 @@ pub fn finish(role: Role, row: Row, p: Point, command: Command) -> Finished
             moved = true;
             point = start;
         }
-        Role::Edge => {
-            if 1 < command.vertices {
-                figure = span(5, flags(row.filled, false, true), p, start);
-                moved = true;
-                point = start;
+        _ => {
+            if is_polygon(role) {
+                if 1 < command.vertices {
+                    figure = span(5, flags(row.filled, false, true), p, start);
+                    moved = true;
+                    point = start;
+                }
             }
         }
-        _ => {}
     }
     Finished {
         figure,

@@ -107,9 +107,9 @@ pub fn either(a: bool, b: bool) -> bool
 pub(crate) fn arc(filled: bool, wrapped: bool, q: Point, command: Command) -> Figure
     ensures { λ r. ⌜ r ≡ arcFigure filled wrapped q command ⌝ }
 {
-    let flags = flags(filled, either(command.wrapped, wrapped), false);
+    let flags = flags(filled, either(command.noted, wrapped), false);
     let start = command.start;
-    let middle = command.middle;
+    let middle = command.kept;
     Figure {
         kind: 3,
         flags,
@@ -134,7 +134,7 @@ pub(crate) fn span(kind: u8, flags: u8, p: Point, q: Point) -> Figure
 
 // A command with the point that a polygon begins at.
 fn with_start(command: Command, start: Point) -> Command
-    ensures { λ r. ⌜ r ≡ withStart start (command .middle) (command .wrapped) command ⌝ }
+    ensures { λ r. ⌜ r ≡ withStart start (command .kept) (command .noted) command ⌝ }
 {
     let mut begun = command;
     begun.start = start;
@@ -147,8 +147,8 @@ fn with_middle(command: Command, start: Point, middle: Point, wrapped: bool) -> 
 {
     let mut begun = command;
     begun.start = start;
-    begun.middle = middle;
-    begun.wrapped = wrapped;
+    begun.kept = middle;
+    begun.noted = wrapped;
     begun
 }
 

@@ -421,8 +421,8 @@ text-closes c t u e k p f h = (refl, closing)
 
     closing : ClosesTo p c (penOf true u p)
     closing l m =
-        (λ i. close (drawingOf (penAt (p .point) (f i) (record { bytes = p .operand .bytes; count = none-begun i })) (commandOf (e i) (c .due) (c .vertices) (c .start) (c .middle) (c .wrapped)) l m))
-        ∙ text-closed (c .due) (p .point) t (p .operand .bytes) (c .vertices) (c .start) (c .middle) (c .wrapped) l m
+        (λ i. close (drawingOf (penAt (p .point) (f i) (record { bytes = p .operand .bytes; count = none-begun i })) (commandOf (e i) (c .due) (c .vertices) (c .start) (c .kept) (c .noted)) l m))
+        ∙ text-closed (c .due) (p .point) t (p .operand .bytes) (c .vertices) (c .start) (c .kept) (c .noted) l m
         ∙ ap (λ (q : Pen). Draw (drawingOf (rested q) (newCommand 0 origin) l m) []) (k (p .point) (record { bytes = p .operand .bytes; count = 0 }))
 
 -- No command

@@ -217,36 +217,85 @@ fn nth_role(n: Due, first: Role, second: Role, third: Role, past: Role) -> Role
     }
 }
 
-pub fn role_of(p: Pattern, n: Due) -> Role
-    ensures { λ r. ⌜ r ≡ roleOf p n ⌝ }
+// What the operands of a pattern are for, in their order.
+struct Roles {
+    first: Role,
+    second: Role,
+    third: Role,
+    past: Role,
+}
+
+fn four_roles(first: Role, second: Role, third: Role, past: Role) -> Roles
+    ensures { λ r. ⌜ r ≡ record { first = first; second = second; third = third; past = past } ⌝ }
+{
+    Roles {
+        first,
+        second,
+        third,
+        past,
+    }
+}
+
+// The first operand, and all others alike.
+fn then_all(first: Role, later: Role) -> Roles
+    ensures { λ r. ⌜ r ≡ record { first = first; second = later; third = later; past = later } ⌝ }
+{
+    four_roles(first, later, later, later)
+}
+
+fn roles_of(p: Pattern) -> Roles
+    ensures { λ r. ⌜ (r .first ≡ roleOf p Due.First) × (r .second ≡ roleOf p Due.Second) × (r .third ≡ roleOf p Due.Third)
+        × (r .past ≡ roleOf p Due.Past) ⌝ }
 {
     match p {
-        Pattern::A => Role::DrawTo,
-        Pattern::D => Role::DrawBy,
-        Pattern::AA => nth_role(n, Role::MoveTo, Role::DrawTo, Role::DrawTo, Role::DrawTo),
-        Pattern::AD => nth_role(n, Role::MoveTo, Role::DrawBy, Role::DrawBy, Role::DrawBy),
-        Pattern::ArcDD => nth_role(n, Role::Middle, Role::ArcEnd, Role::Dropped, Role::Dropped),
-        Pattern::ArcADD => nth_role(n, Role::MoveTo, Role::Middle, Role::ArcEnd, Role::Dropped),
-        Pattern::PolygonD => Role::Edge,
-        Pattern::PolygonAD => nth_role(n, Role::Start, Role::Edge, Role::Edge, Role::Edge),
-        Pattern::Domain => nth_role(n, Role::Lengths, Role::Pel, Role::Dropped, Role::Dropped),
-        Pattern::Text => nth_role(
-            n,
+        Pattern::A => then_all(Role::DrawTo, Role::DrawTo),
+        Pattern::D => then_all(Role::DrawBy, Role::DrawBy),
+        Pattern::AA => then_all(Role::MoveTo, Role::DrawTo),
+        Pattern::AD => then_all(Role::MoveTo, Role::DrawBy),
+        Pattern::ArcDD => four_roles(Role::Middle, Role::ArcEnd, Role::Dropped, Role::Dropped),
+        Pattern::ArcADD => four_roles(Role::MoveTo, Role::Middle, Role::ArcEnd, Role::Dropped),
+        Pattern::PolygonD => then_all(Role::Edge, Role::Edge),
+        Pattern::PolygonAD => then_all(Role::Start, Role::Edge),
+        Pattern::IncrementalLine => four_roles(
+            Role::StepSize,
+            Role::LineCodes,
+            Role::LineCodes,
+            Role::Dropped,
+        ),
+        Pattern::IncrementalPolygon => four_roles(
+            Role::StepSize,
+            Role::PolygonCodes,
+            Role::PolygonCodes,
+            Role::Dropped,
+        ),
+        Pattern::Domain => four_roles(Role::Lengths, Role::Pel, Role::Dropped, Role::Dropped),
+        Pattern::Text => four_roles(
             Role::TextFirst,
             Role::TextSecond,
             Role::TextField,
             Role::TextMore,
         ),
-        Pattern::SelectColour => nth_role(
-            n,
+        Pattern::SelectColour => four_roles(
             Role::Foreground,
             Role::Background,
             Role::Dropped,
             Role::Dropped,
         ),
-        Pattern::SetColour => nth_role(n, Role::Shade, Role::Dropped, Role::Dropped, Role::Dropped),
-        Pattern::Skipped => Role::Dropped,
+        Pattern::SetColour => then_all(Role::Shade, Role::Dropped),
+        Pattern::Skipped => then_all(Role::Dropped, Role::Dropped),
     }
+}
+
+// The role of the operand that is due. All four are looked up at once, which makes of both matches one lookup each.
+pub fn role_of(p: Pattern, n: Due) -> Role
+    ensures { λ r. ⌜ r ≡ roleOf p n ⌝ }
+{
+    let roles = roles_of(p);
+    let first = roles.first;
+    let second = roles.second;
+    let third = roles.third;
+    let past = roles.past;
+    nth_role(n, first, second, third, past)
 }
 
 // The operand that is due next where a pattern does not repeat.
@@ -285,11 +334,13 @@ pub fn due_after(p: Pattern, n: Due) -> Due
     }
 }
 
-// The bytes of an operand; 0 where data is dropped.
+// The bytes of an operand; 0 where data makes none, being codes or dropped.
 pub fn length_of(r: Role, d: Domain) -> u8
     ensures { λ n. ⌜ n ≡ lengthOf r d ⌝ }
 {
     match r {
+        Role::LineCodes => 0,
+        Role::PolygonCodes => 0,
         Role::Lengths => 1,
         Role::TextFirst => 1,
         Role::TextSecond => 1,

@@ -1,5 +1,7 @@
 -- The code's test on patterns is the rule's test on signed numbers, by the signs of the summands; and a sum in range is exact
-use Rattle.operands.specs.Prelude.{_≡_, refl, sym, ap, _∙_, Bool, true, false, not, cond, _&&_, ℕ, suc, _+_, _-_, _/_, _^_, _≤_, _<_, arith, lt-ltb, le-ltb, le-leb, lt-leb, ltb-true, ltb-false, leb-true, leb-false, eq-eqb, ne-eqb, ltb, leb, eqb, pos, negsuc, subℕ, _+ℤ_, +ℤ-comm}
+use Rattle.operands.specs.Prelude.{_≡_, refl, sym, ap, _∙_, Bool, true, false, not, cond, _&&_, ℕ, suc, _+_, _-_, _/_, _^_, _≤_, _<_, arith, lt-ltb, le-ltb, le-leb, lt-leb, ltb-true, ltb-false, leb-true, leb-false, ltb, leb, eqb, pos, negsuc, subℕ, _+ℤ_, +ℤ-comm}
+use lib.Bits.{bitAnd, bitXor, and-shr, xor-shr}
+use mathlib.Core.Path.{ap₂}
 use Rattle.rules.specs.Operands.{signed, inRange, wrappedSum, leavesRange}
 use Rattle.rules.proofs.Bools.{by-test, by-truth}
 
@@ -48,42 +50,48 @@ module _ (a b s : ℕ) (fa : a < 2 ^ 32) (fb : b < 2 ^ 32) (e : s ≡ wrappedSum
   unfolding leavesRange
   high-low p q = rw (high a p fa, low b q) (ap not (sym (apart b (suc (2 ^ 32 - suc a)) q (omega arith))))
 
--- The same by the code's tests: unlike signs never leave the range, of like signs the sum's sign tells
+-- The same by the code's test, over the highest bits: that of the sum is neither summand's
+abbrev neither : ℕ → ℕ → ℕ → Bool
+neither a b s = eqb (bitAnd (bitXor a s) (bitXor b s)) 1
+
 module _ (a b s : ℕ) (fa : a < 2 ^ 32) (fb : b < 2 ^ 32) (e : s ≡ wrappedSum a b) where
-  pub unlike : (a / 2 ^ 31 ≡ b / 2 ^ 31 → ⊥) → false ≡ leavesRange a b
-  unlike h = by-test (ltb a (2 ^ 31)) below above
-    where
-      below : ltb a (2 ^ 31) ≡ true → false ≡ leavesRange a b
-      below t =
-          let p = ltb-true a (2 ^ 31) t in
-          by-test (ltb b (2 ^ 31))
-          (λ u. let q = ltb-true b (2 ^ 31) u in absurd (h (omega arith)))
-          (λ u. low-high a b s fa fb e p (ltb-false b (2 ^ 31) u))
+  at : (x y z : ℕ) → a / 2 ^ 31 ≡ x → b / 2 ^ 31 ≡ y → s / 2 ^ 31 ≡ z → neither (a / 2 ^ 31) (b / 2 ^ 31) (s / 2 ^ 31) ≡ neither x y z
+  at x y z p q r i = neither (p i) (q i) (r i)
 
-      above : ltb a (2 ^ 31) ≡ false → false ≡ leavesRange a b
-      above t =
-          let p = ltb-false a (2 ^ 31) t in
-          by-test (ltb b (2 ^ 31))
-          (λ u. high-low a b s fa fb e p (ltb-true b (2 ^ 31) u))
-          (λ u. let q = ltb-false b (2 ^ 31) u in absurd (h (omega arith)))
-
-  pub like : a / 2 ^ 31 ≡ b / 2 ^ 31 → not (eqb (s / 2 ^ 31) (a / 2 ^ 31)) ≡ leavesRange a b
+  by-signs : neither (a / 2 ^ 31) (b / 2 ^ 31) (s / 2 ^ 31) ≡ leavesRange a b
   unfolding wrappedSum
-  like h = by-test (ltb a (2 ^ 31)) below above
-    where
-      below : ltb a (2 ^ 31) ≡ true → not (eqb (s / 2 ^ 31) (a / 2 ^ 31)) ≡ leavesRange a b
-      below t =
-          let p = ltb-true a (2 ^ 31) t in
-          by-test (leb (2 ^ 31) s)
-          (λ u. let q = leb-true (2 ^ 31) s u in ap not (ne-eqb (s / 2 ^ 31) (a / 2 ^ 31) (λ z. absurd (omega arith))) ∙ sym u ∙ low-low a b s fa fb e p (omega arith))
-          (λ u. let q = leb-false (2 ^ 31) s u in ap not (eq-eqb (s / 2 ^ 31) (a / 2 ^ 31) (omega arith)) ∙ sym u ∙ low-low a b s fa fb e p (omega arith))
+  by-signs =
+      by-test (ltb a (2 ^ 31))
+      (λ t.
+      let p = ltb-true a (2 ^ 31) t in
+      by-test (ltb b (2 ^ 31))
+      (λ u.
+      let q = ltb-true b (2 ^ 31) u in
+      by-test (leb (2 ^ 31) s)
+      (λ v. let r = leb-true (2 ^ 31) s v in at 0 0 1 (omega arith) (omega arith) (omega arith) ∙ sym v ∙ low-low a b s fa fb e p q)
+      (λ v. let r = leb-false (2 ^ 31) s v in at 0 0 0 (omega arith) (omega arith) (omega arith) ∙ sym v ∙ low-low a b s fa fb e p q))
+      (λ u.
+      let q = ltb-false b (2 ^ 31) u in
+      by-test (leb (2 ^ 31) s)
+      (λ v. let r = leb-true (2 ^ 31) s v in at 0 1 1 (omega arith) (omega arith) (omega arith) ∙ low-high a b s fa fb e p q)
+      (λ v. let r = leb-false (2 ^ 31) s v in at 0 1 0 (omega arith) (omega arith) (omega arith) ∙ low-high a b s fa fb e p q)))
+      (λ t.
+      let p = ltb-false a (2 ^ 31) t in
+      by-test (ltb b (2 ^ 31))
+      (λ u.
+      let q = ltb-true b (2 ^ 31) u in
+      by-test (leb (2 ^ 31) s)
+      (λ v. let r = leb-true (2 ^ 31) s v in at 1 0 1 (omega arith) (omega arith) (omega arith) ∙ high-low a b s fa fb e p q)
+      (λ v. let r = leb-false (2 ^ 31) s v in at 1 0 0 (omega arith) (omega arith) (omega arith) ∙ high-low a b s fa fb e p q))
+      (λ u.
+      let q = ltb-false b (2 ^ 31) u in
+      by-test (ltb s (2 ^ 31))
+      (λ v. let r = ltb-true s (2 ^ 31) v in at 1 1 0 (omega arith) (omega arith) (omega arith) ∙ sym v ∙ high-high a b s fa fb e p q)
+      (λ v. let r = ltb-false s (2 ^ 31) v in at 1 1 1 (omega arith) (omega arith) (omega arith) ∙ sym v ∙ high-high a b s fa fb e p q)))
 
-      above : ltb a (2 ^ 31) ≡ false → not (eqb (s / 2 ^ 31) (a / 2 ^ 31)) ≡ leavesRange a b
-      above t =
-          let p = ltb-false a (2 ^ 31) t in
-          by-test (ltb s (2 ^ 31))
-          (λ u. let q = ltb-true s (2 ^ 31) u in ap not (ne-eqb (s / 2 ^ 31) (a / 2 ^ 31) (λ z. absurd (omega arith))) ∙ sym u ∙ high-high a b s fa fb e p (omega arith))
-          (λ u. let q = ltb-false s (2 ^ 31) u in ap not (eq-eqb (s / 2 ^ 31) (a / 2 ^ 31) (omega arith)) ∙ sym u ∙ high-high a b s fa fb e p (omega arith))
+  pub signs-tell : eqb (bitAnd (bitXor a s) (bitXor b s) / 2 ^ 31) 1 ≡ leavesRange a b
+  signs-tell =
+      ap (λ (n : ℕ). eqb n 1) (and-shr (bitXor a s) (bitXor b s) 31 ∙ ap₂ bitAnd (xor-shr a s 31) (xor-shr b s 31)) ∙ by-signs
 
 -- Unlike signs: the patterns' sum wraps exactly where the numbers' sum is not negative
 mixed : (a b s : ℕ) → s ≡ wrappedSum a b → a < 2 ^ 31 → 2 ^ 31 ≤ b → b < 2 ^ 32 → signed s ≡ signed a +ℤ signed b

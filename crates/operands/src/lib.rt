@@ -5,6 +5,7 @@ ghost use mathlib.Core.Path.{_≡_};
 ghost use Prim.Native.Nat.{_+_, _*_, _%_, _^_, _<_, _≤_};
 ghost use lib.ListN.{length, getD};
 ghost use Rattle.rules.specs.Operands.{greenBits, redBits, blueBits, bitsOf, fromTop, point, address, begun, wrappedSum, leavesRange, displaced, displacedOut};
+ghost use Rattle.rules.specs.Increments.{negated};
 ghost use Rattle.rules.specs.Drawing.{domainOf};
 ghost use Rattle.operands.specs.Steps.{joined, withTuple, withTuples};
 use rules::Domain;
@@ -33,12 +34,12 @@ pub struct Hue {
     pub blue: u8,
 }
 
-// Summands of unlike signs never leave the range; of like signs they do where the wrapped sum has the other sign.
+// The sum leaves the range where its sign is neither summand's.
 fn leaves_range(a: u32, b: u32, sum: u32) -> bool
     requires { ⌜ sum ≡ wrappedSum a b ⌝ }
     ensures { λ r. ⌜ r ≡ leavesRange a b ⌝ }
 {
-    a / NEGATIVE == b / NEGATIVE && sum / NEGATIVE != a / NEGATIVE
+    ((a ^ sum) & (b ^ sum)) / NEGATIVE == 1
 }
 
 fn add(a: u32, b: u32) -> Sum
@@ -47,6 +48,13 @@ fn add(a: u32, b: u32) -> Sum
     let value = std::num::wrapping_add_u32(a, b);
     let outside = leaves_range(a, b, value);
     Sum { value, outside }
+}
+
+// A number with the other sign.
+pub fn negate(n: u32) -> u32
+    ensures { λ r. ⌜ r ≡ negated n ⌝ }
+{
+    std::num::wrapping_sub_u32(0, n)
 }
 
 pub fn displace(p: Point, d: Point) -> Displaced

@@ -1,22 +1,23 @@
 -- The cursor that an act leaves is held where it stands, but while TEXT is open or NSR waits, and its field fits there
 use Rattle.rules.specs.Prelude.{ℕ, zero, suc, _+_, _-_, _%_, _^_, _≤_, arith, _≡_, refl, sym, ap, _∙_, subst, Bool, true, false, not, _||_, List, [], getD, drop, ltb, leb, eqb, eqb-true, leb-true, leb-false, le-leb, ltb-false}
 use Rattle.rules.specs.Types.{Action, Idle, Close, Control·action as Control, Cancel, Format, Reset, Position, Character, Opcode, Data, Point, Pen, Text, Record}
-use Rattle.rules.specs.Types.{Due, First, Second, Third, Past, Drawing, Row, Mode, Direct, Mapped, TwoColour, Reach, Coordinate}
+use Rattle.rules.specs.Types.{Due, First, Second, Third, Past, Outline, Drawing, Row, Mode, Direct, Mapped, TwoColour, Reach, Coordinate}
 use Rattle.rules.specs.Types.{Rotation, Degrees0, Degrees90, Degrees180, Degrees270, Effector, Apb, Apf, Apd, Apu, Cs, Apr, Aph, Positioning, Aps, Nsr, Repertoire}
-use Rattle.rules.specs.Types.{Pattern, A, D, AA, AD, ArcDD, ArcADD, PolygonD, PolygonAD, Domain·pattern, Text·pattern, SelectColour, SetColour, Skipped}
-use Rattle.rules.specs.Types.{Role, MoveTo, DrawTo, DrawBy, Middle, ArcEnd, Start, Edge, Lengths, Pel, TextFirst, TextSecond, TextField, TextMore, Foreground}
+use Rattle.rules.specs.Types.{Pattern, A, D, AA, AD, ArcDD, ArcADD, PolygonD, PolygonAD, IncrementalLine, IncrementalPolygon, Domain·pattern, Text·pattern, SelectColour, SetColour, Skipped}
+use Rattle.rules.specs.Types.{Role, MoveTo, DrawTo, DrawBy, Middle, ArcEnd, Start, Edge, StepSize, LineCodes, PolygonCodes, Lengths, Pel, TextFirst, TextSecond, TextField, TextMore, Foreground}
 use Rattle.rules.specs.Types.{Background, Shade·role as Shade, Dropped}
 use Rattle.rules.specs.Numbers.{mostVertices, screenSide}
 use Rattle.rules.specs.Operands.{begun}
+use Rattle.rules.specs.Increments.{codes}
 use Rattle.rules.specs.Text.{trunc256, min, max, magnitude, coordinateOf, fieldFits, held, turnedBox, boxOf, fieldBox, formatted, spaces, typed, placedBy, rowUp}
 use Rattle.rules.specs.Drawing.{row, other, rows, rowOf, roleOf, withPen, marked, Outcome, NotDrawn, Draw, andThen}
-use Rattle.rules.specs.Drawing.{drawFigure, arcMiddle, arcTo, edgeBy, shadeMap, shadeTo, apply, roleDue, applyBegun}
-use Rattle.rules.specs.Drawing.{withByte, takeByte, dataByte, complete, closingEdge, finish, closed, close, openCommand, act, freshDrawing}
+use Rattle.rules.specs.Drawing.{drawFigure, arcMiddle, arcTo, edgeBy, applyCode, shadeMap, shadeTo, apply, roleDue, applyBegun}
+use Rattle.rules.specs.Drawing.{withByte, looseByte, takeByte, dataByte, complete, hasEdge, closingEdge, finish, closed, close, openCommand, act, freshDrawing}
 use Rattle.rules.specs.Statements.{OnGrid, textOpen, FitsAt, fitsThere, lastPlace, FieldFits}
 use Rattle.rules.proofs.Bools.{true-false, and-both, by-test, pick-all, pick-by}
 use Rattle.rules.proofs.Tables.{entry-passes}
 use Rattle.rules.proofs.TextLaws.{kept-edge, kept-last, le-kept, max-right, box-fits, Stays, advance-stays, apb-stays, row-stays, home-stays, apr-stays, apd-stays, close-stays, addressed-stays, positioned-stays, follow-stays}
-use Rattle.rules.proofs.DrawingRanges.{Drawn, drawn-map, then-drawn, nth-all, finish-all}
+use Rattle.rules.proofs.DrawingRanges.{Drawn, drawn-map, then-drawn, nth-all, code-all, codes-drawn, loose-all, finish-all}
 use Rattle.rules.proofs.Multiples.{Below}
 
 -- The field fits where the cursor is held
@@ -108,6 +109,8 @@ apart ArcDD = true
 apart ArcADD = true
 apart PolygonD = true
 apart PolygonAD = true
+apart IncrementalLine = true
+apart IncrementalPolygon = true
 apart Domain·pattern = true
 apart Text·pattern = false
 apart SelectColour = true
@@ -122,6 +125,9 @@ roleApart Middle = true
 roleApart ArcEnd = true
 roleApart Start = true
 roleApart Edge = true
+roleApart StepSize = true
+roleApart LineCodes = true
+roleApart PolygonCodes = true
 roleApart Lengths = true
 roleApart Pel = true
 roleApart TextFirst = false
@@ -146,6 +152,8 @@ apart-role ArcDD n e = nth-all Apart n refl refl refl refl
 apart-role ArcADD n e = nth-all Apart n refl refl refl refl
 apart-role PolygonD n e = refl
 apart-role PolygonAD n e = nth-all Apart n refl refl refl refl
+apart-role IncrementalLine n e = nth-all Apart n refl refl refl refl
+apart-role IncrementalPolygon n e = nth-all Apart n refl refl refl refl
 apart-role Domain·pattern n e = nth-all Apart n refl refl refl refl
 apart-role Text·pattern n e = true-false (sym e)
 apart-role SelectColour n e = nth-all Apart n refl refl refl refl
@@ -195,6 +203,9 @@ apply-stays Middle r bs d e k = follow-stays _ (d .pen) k
 apply-stays ArcEnd r bs d e k = follow-stays _ (d .pen) k
 apply-stays Start r bs d e k = follow-stays _ (d .pen) k
 apply-stays Edge r bs d e k = edge-stays (r .filled) _ d k
+apply-stays StepSize r bs d e k = k
+apply-stays LineCodes r bs d e k = k
+apply-stays PolygonCodes r bs d e k = k
 apply-stays Lengths r bs d e k = k
 apply-stays Pel r bs d e k = k
 apply-stays TextFirst r bs d e k = true-false (sym e)
@@ -221,19 +232,31 @@ begun-text d e =
     (nth-all (λ (x : Role). Drawn TextIn (apply x textRow bs d)) (d .command .due) e e e e)
     (λ f h. h)
 
+-- Codes of an incremental command: the cursor follows each move
+code-stays : (o : Outline) (filled : Bool) (c : ℕ) (d : Drawing) → StaysIn d → Drawn StaysIn (applyCode o filled c d)
+code-stays o filled c d k =
+    code-all (Drawn StaysIn) o filled c d k (λ kind. figure-stays kind filled _ _ d k, edge-stays filled _ d k)
+
 -- A data byte, for an operand of n bytes
-take-all : (P : Drawing → Type 0) (n : ℕ) (r : Row) (b : ℕ) (d : Drawing) → P d → P (withByte b d) → Drawn P (applyBegun r (withByte b d)) → Drawn P (takeByte n r b d)
+take-all : (P : Drawing → Type 0) (n : ℕ) (r : Row) (b : ℕ) (d : Drawing) → Drawn P (looseByte (roleDue r d) (r .filled) b d)
+    → P (withByte b d) → Drawn P (applyBegun r (withByte b d)) → Drawn P (takeByte n r b d)
 unfolding takeByte
 take-all P n r b d p q o =
     pick-all (Drawn P) (eqb n 0) p (pick-all (Drawn P) (ltb (suc (d .pen .operand .count)) n) q o)
 
 data-text : (b : ℕ) (d : Drawing) → TextIn d → Drawn TextIn (dataByte textRow b d)
-unfolding dataByte
-data-text b d e = take-all TextIn _ textRow b d e e (begun-text (withByte b d) e)
+unfolding dataByte roleOf looseByte
+data-text b d e =
+    take-all TextIn _ textRow b d (nth-all (λ (x : Role). Drawn TextIn (looseByte x false b d)) (d .command .due) e e e e) e
+    (begun-text (withByte b d) e)
 
 data-stays : (r : Row) (b : ℕ) (d : Drawing) → apart (r .pattern) ≡ true → StaysIn d → Drawn StaysIn (dataByte r b d)
 unfolding dataByte
-data-stays r b d e k = take-all StaysIn _ r b d k k (begun-stays r (withByte b d) e k)
+data-stays r b d e k =
+    let f = r .filled in
+    take-all StaysIn _ r b d
+    (loose-all (Drawn StaysIn) (roleDue r d) f b d k (λ o. codes-drawn StaysIn o f (code-stays o f) (codes b) d k)) k
+    (begun-stays r (withByte b d) e k)
 
 data-settled : (b : ℕ) (d : Drawing) → Settled d → Drawn Settled (dataByte (rowOf (d .command .opcode)) b d)
 data-settled b d h =
@@ -264,7 +287,7 @@ finish-stays : (x : Role) (filled : Bool) (d : Drawing) → StaysIn d → Drawn 
 unfolding arcTo closingEdge
 finish-stays x filled d k =
     let moved = follow-stays (d .command .start) (d .pen) k in
-    finish-all (Drawn StaysIn) x filled d k moved (pick-all (Drawn StaysIn) (ltb 1 (d .command .vertices)) moved k) k
+    finish-all (Drawn StaysIn) x filled d k moved (pick-all (Drawn StaysIn) (hasEdge (d .command)) moved k) k
     (λ n. close-stays n (d .pen))
 
 other-closing : (r : Row) (d : Drawing) → apart (r .pattern) ≡ true → StaysIn d → Drawn StaysIn (closing d r)

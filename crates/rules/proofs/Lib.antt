@@ -12,9 +12,11 @@ pub mod WorkedPages
 pub mod WorkedTextPages
 pub mod WorkedColours
 pub mod WorkedCancels
+pub mod WorkedIncrements
 pub mod WorkedCalls
 pub mod DrawingRanges
 pub mod RecordCount
+pub mod Outlines
 pub mod CodingRanges
 pub mod Reacting
 pub mod Multiples

@@ -1,24 +1,25 @@
 -- From a fresh session every place that drawing keeps is a multiple of 256, and so is every coordinate of a record but of kind 8
 use Rattle.rules.specs.Prelude.{ℕ, zero, suc, _+_, _*_, _-_, _%_, _^_, _<_, _≤_, arith, mul-assoc, pow-add, pow-suc, _≡_, refl, sym, ap, _∙_, Bool, true, false, List, [], _∷_, _++_, length, length-append, length-take, length-set, ltb, eqb}
 use Rattle.rules.specs.Types.{Action, Idle, Close, Control·action as Control, Cancel, Format, Reset, Position, Character, Opcode, Data, Point, Operand, Pen, Text, Look, Record}
-use Rattle.rules.specs.Types.{Due, Drawing, Row, Mode, Direct, Mapped, TwoColour, Reach, Coordinate}
+use Rattle.rules.specs.Types.{Due, Outline, Line, Polygon, Command, Drawing, Row, Mode, Direct, Mapped, TwoColour, Reach, Coordinate}
 use Rattle.rules.specs.Types.{Moving, Together, CursorLeads, PointLeads, Independent, Style, Effector, Apb, Apf, Apd, Apu, Cs, Apr, Aph}
 use Rattle.rules.specs.Types.{Pair, NoPair, Automatic, ReturnSeen, FeedSeen, Positioning, Aps, Nsr, Repertoire}
-use Rattle.rules.specs.Types.{Role, MoveTo, DrawTo, DrawBy, Middle, ArcEnd, Start, Edge, Lengths, Pel, TextFirst, TextSecond, TextField, TextMore, Foreground}
+use Rattle.rules.specs.Types.{Role, MoveTo, DrawTo, DrawBy, Middle, ArcEnd, Start, Edge, StepSize, LineCodes, PolygonCodes, Lengths, Pel, TextFirst, TextSecond, TextField, TextMore, Foreground}
 use Rattle.rules.specs.Types.{Background, Shade·role as Shade, Dropped}
 use Rattle.rules.specs.Numbers.{mostVertices, screenSide, origin}
 use Rattle.rules.specs.Operands.{bit, xBits, yBits, bitsOf, fromTop, point, begun, wrappedSum, displaced, displacedOut}
 use Rattle.rules.specs.Record.{flags, setNumber, recordOf, mark, characterRecord, figure}
 use Rattle.rules.specs.Text.{fieldBox, offset, pointOn, pointAt, cursorOn, cursorAt, led, following, follow, setCursor, setAlong, fitsNext}
 use Rattle.rules.specs.Text.{enter, rowIn, rowDown, rowUp, firstPosition, automaticPair, advance, apb, home, returnIn, feedIn, formatted, spaces, typed, closeText, addressed, positioned, placedBy, resetText, opposite, withText, withSettings, withMissing, withField, freshField}
+use Rattle.rules.specs.Increments.{namesX, namesY, codes, displacement, negated, signChanged, changeDue}
 use Rattle.rules.specs.Drawing.{rowOf, lengthOf, withCommand, reset, marked, withPoint, withStart, withVertices, onText}
 use Rattle.rules.specs.Drawing.{Outcome, NotDrawn, Draw, prepend, andThen}
-use Rattle.rules.specs.Drawing.{drawFigure, arcMiddle, arcTo, edgeBy, domainOf, shadeMap, shadeTo, apply, roleDue, applyBegun}
-use Rattle.rules.specs.Drawing.{withByte, takeByte, dataByte, complete, closingEdge, finish, close, openCommand, controlRecord, act, freshDrawing}
+use Rattle.rules.specs.Drawing.{drawFigure, arcMiddle, arcTo, edgeBy, flagChanged, changed, altered, applyCode, applyCodes, domainOf, shadeMap, shadeTo, apply, roleDue, applyBegun}
+use Rattle.rules.specs.Drawing.{withByte, takeByte, dataByte, complete, hasEdge, closingEdge, finish, close, openCommand, controlRecord, act, freshDrawing}
 use Rattle.rules.specs.Statements.{OnGrid, RecordOnGrid, AllOnGrid}
 use Rattle.rules.proofs.Bools.{pick-all}
 use Rattle.rules.proofs.TextLaws.{held-truncated, held-below, offset-before, offset-after}
-use Rattle.rules.proofs.DrawingRanges.{finish-all}
+use Rattle.rules.proofs.DrawingRanges.{finish-all, code-all, loose-all}
 
 -- Numbers
 
@@ -245,14 +246,14 @@ close-text-grid n s g = set-grid _ _ (withText (withSettings (withMissing n (s .
 
 -- Drawing
 
--- The start and middle of the open command, and the pel
-pub record FigureAt (start middle pel : Point) : Type 0 where
+-- The start and the kept point of the open command, and the pel
+pub record FigureAt (start kept pel : Point) : Type 0 where
   pub at-start : OnGrid start
-  pub at-middle : OnGrid middle
+  pub at-kept : OnGrid kept
   pub at-pel : OnGrid pel
 
 abbrev pub DrawingOnGrid : Drawing → Type 0
-DrawingOnGrid d = PenOnGrid (d .pen) × FigureAt (d .command .start) (d .command .middle) (d .look .domain .pel)
+DrawingOnGrid d = PenOnGrid (d .pen) × FigureAt (d .command .start) (d .command .kept) (d .look .domain .pel)
 
 -- An action leaves such a state and writes such records
 abbrev pub OutcomeOnGrid : Outcome → Type 0
@@ -319,11 +320,11 @@ arc-grid : (filled w : Bool) (q : Point) (d : Drawing) → OnGrid q → DrawingO
 unfolding arcTo
 arc-grid filled w q d h g =
     let c = d .command in
-    (move-grid q d h g, (figure-grid (d .look) 3 _ (c .start) (c .middle) q (g .1 .at-pel) (g .1 .at-start) (g .1 .at-middle) h, tt))
+    (move-grid q d h g, (figure-grid (d .look) 3 _ (c .start) (c .kept) q (g .1 .at-pel) (g .1 .at-start) (g .1 .at-kept) h, tt))
 
--- A command with another start and middle
+-- A command with another start and kept point
 start-grid : (p m : Point) (d : Drawing) → OnGrid p → OnGrid m → DrawingOnGrid d → FigureAt p m (d .look .domain .pel)
-start-grid p m d h k g = record { at-start = h; at-middle = k; at-pel = g .1 .at-pel }
+start-grid p m d h k g = record { at-start = h; at-kept = k; at-pel = g .1 .at-pel }
 
 edge-grid : (filled : Bool) (v : Point) (d : Drawing) → OnGrid v → DrawingOnGrid d → OutcomeOnGrid (edgeBy filled v d)
 unfolding edgeBy
@@ -340,8 +341,8 @@ colour-grid Direct x y z d g = (g, tt)
 colour-grid Mapped x y z d g = (g, (shade-grid (d .look) _ _ (g .1 .at-pel), tt))
 colour-grid TwoColour x y z d g = (g, (shade-grid (d .look) _ _ (g .1 .at-pel), tt))
 
-pel-grid : (p : Point) (d : Drawing) → OnGrid p → DrawingOnGrid d → FigureAt (d .command .start) (d .command .middle) p
-pel-grid p d h g = record { at-start = g .1 .at-start; at-middle = g .1 .at-middle; at-pel = h }
+pel-grid : (p : Point) (d : Drawing) → OnGrid p → DrawingOnGrid d → FigureAt (d .command .start) (d .command .kept) p
+pel-grid p d h g = record { at-start = g .1 .at-start; at-kept = g .1 .at-kept; at-pel = h }
 
 field-grid : (f : Point) (d : Drawing) → Below (2 ^ 32) f → DrawingOnGrid d → DrawingOnGrid (onText (withField f) d)
 field-grid f d h g =
@@ -370,8 +371,12 @@ apply-grid ArcEnd r bs d h g = arc-grid (r .filled) _ _ d (displaced-grid _ _ (g
 apply-grid Start r bs d h g =
     let p = point (d .look .domain .three) bs in
     let k = point-grid (d .look .domain .three) bs h in
-    (move-grid p (withCommand (withStart p (d .command .middle) (d .command .wrapped) (d .command)) d) k (g .0, start-grid p (d .command .middle) d k (g .1 .at-middle) g), tt)
+    (move-grid p (withCommand (withStart p (d .command .kept) (d .command .noted) (d .command)) d) k (g .0, start-grid p (d .command .kept) d k (g .1 .at-kept) g), tt)
 apply-grid Edge r bs d h g = edge-grid (r .filled) _ d (point-grid _ bs h) g
+apply-grid StepSize r bs d h g =
+    ((g .0, start-grid (d .command .start) _ d (g .1 .at-start) (point-grid _ bs h) g), tt)
+apply-grid LineCodes r bs d h g = (g, tt)
+apply-grid PolygonCodes r bs d h g = (g, tt)
 apply-grid Lengths r bs d h g = (g, tt)
 apply-grid Pel r bs d h g = ((g .0, pel-grid _ d (point-grid _ bs h) g), tt)
 apply-grid TextFirst r bs d h g = (g, tt)
@@ -420,11 +425,55 @@ byte-grid b d g =
       g .1,
     )
 
+-- The codes of an incremental command: a displacement is by the step or by nothing, and a sign change leaves a multiple
+
+displacement-grid : (c : ℕ) (v : Point) → OnGrid v → OnGrid (displacement c v)
+unfolding displacement
+displacement-grid c v h =
+    let P : ℕ → Type 0 = λ n. n % 256 ≡ 0 in (pick-all P (namesX c) (h .0) refl, pick-all P (namesY c) (h .1) refl)
+
+negated-grid : (n : ℕ) → n % 256 ≡ 0 → negated n % 256 ≡ 0
+unfolding negated
+negated-grid n h = omega arith
+
+sign-grid : (c : ℕ) (v : Point) → OnGrid v → OnGrid (signChanged c v)
+unfolding signChanged
+sign-grid c v h =
+    let P : ℕ → Type 0 = λ n. n % 256 ≡ 0 in
+    (pick-all P (namesX c) (negated-grid (v .x) (h .0)) (h .0), pick-all P (namesY c) (negated-grid (v .y) (h .1)) (h .1))
+
+-- A code that is no move leaves the start, and a step that is a multiple
+altered-grid : (o : Outline) (n : ℕ) (d : Drawing) → DrawingOnGrid d → DrawingOnGrid (withCommand (altered o n (d .command)) d)
+unfolding altered changed flagChanged
+altered-grid o n d g =
+    let c = d .command in
+    let P : Command → Type 0 = λ e. PenOnGrid (d .pen) × FigureAt (e .start) (e .kept) (d .look .domain .pel) in
+    pick-all P (changeDue (c .due))
+    (pick-all P (eqb n 0) (by o) (g .0, start-grid (c .start) _ d (g .1 .at-start) (sign-grid n (c .kept) (g .1 .at-kept)) g)) g
+  where
+    by : (o : Outline) → unfold flagChanged in DrawingOnGrid (withCommand (flagChanged o (d .command)) d)
+    by Line = g
+    by Polygon = g
+
+code-grid : (o : Outline) (filled : Bool) (c : ℕ) (d : Drawing) → DrawingOnGrid d → OutcomeOnGrid (applyCode o filled c d)
+code-grid o filled c d g =
+    let v = displacement c (d .command .kept) in
+    let k = displacement-grid c (d .command .kept) (g .1 .at-kept) in
+    code-all OutcomeOnGrid o filled c d (altered-grid o c d g, tt)
+    (λ kind. draw-grid kind filled _ _ d (displaced-grid (d .pen .point) v (g .0 .at-point) k) g, edge-grid filled v d k g)
+
+codes-grid : (o : Outline) (filled : Bool) (cs : List ℕ) (d : Drawing) → DrawingOnGrid d → OutcomeOnGrid (applyCodes o filled cs d)
+unfolding applyCodes
+codes-grid o filled [] d g = (g, tt)
+codes-grid o filled (c ∷ cs) d g =
+    then-grid (applyCode o filled c d) _ (code-grid o filled c d g) (codes-grid o filled cs)
+
 data-grid : (r : Row) (b : ℕ) (d : Drawing) → DrawingOnGrid d → OutcomeOnGrid (dataByte r b d)
 unfolding dataByte takeByte
 data-grid r b d g =
     let n = lengthOf (roleDue r d) (d .look .domain) in
-    pick-all OutcomeOnGrid (eqb n 0) (g, tt)
+    pick-all OutcomeOnGrid (eqb n 0)
+    (loose-all OutcomeOnGrid (roleDue r d) (r .filled) b d (g, tt) (λ o. codes-grid o (r .filled) (codes b) d g))
     (pick-all OutcomeOnGrid (ltb (suc (d .pen .operand .count)) n) (byte-grid b d g, tt) (begun-grid r (withByte b d) (byte-grid b d g)))
 
 -- Closing
@@ -433,7 +482,7 @@ edge-back-grid : (filled : Bool) (d : Drawing) → DrawingOnGrid d → OutcomeOn
 unfolding closingEdge
 edge-back-grid filled d g =
     let c = d .command in
-    pick-all OutcomeOnGrid (ltb 1 (c .vertices))
+    pick-all OutcomeOnGrid (hasEdge c)
     (move-grid (c .start) d (g .1 .at-start) g, (figure-grid (d .look) 5 _ (d .pen .point) (c .start) origin (g .1 .at-pel) (g .0 .at-point) (g .1 .at-start) origin-grid, tt))
     (g, tt)
 
@@ -448,7 +497,7 @@ close-grid d g =
     let r = rowOf (d .command .opcode) in
     then-grid (complete r d) _ (pick-all OutcomeOnGrid (eqb (d .pen .operand .count) 0) (g, tt) (begun-grid r d g))
     (λ e h. then-grid (finish (roleDue r e) (r .filled) e) _ (finish-grid (roleDue r e) (r .filled) e h)
-    (λ f k. ((unbegun f k, record { at-start = origin-grid; at-middle = origin-grid; at-pel = k .1 .at-pel }), tt)))
+    (λ f k. ((unbegun f k, record { at-start = origin-grid; at-kept = origin-grid; at-pel = k .1 .at-pel }), tt)))
 
 -- Actions
 
@@ -457,7 +506,7 @@ unfolding openCommand
 open-grid o d g =
     let p = g .0 .at-point in
     let n = g .1 .at-pel in
-    ((g .0, record { at-start = p; at-middle = origin-grid; at-pel = n }), pick-all AllOnGrid (eqb (rowOf o .kind) 9) (mark-grid (d .look) 9 o (d .pen .point) n p, tt) tt)
+    ((g .0, record { at-start = p; at-kept = origin-grid; at-pel = n }), pick-all AllOnGrid (eqb (rowOf o .kind) 9) (mark-grid (d .look) 9 o (d .pen .point) n p, tt) tt)
 
 marked-grid : (r : Drawing → Record) (f : Drawing → Drawing) (d : Drawing) → DrawingOnGrid d → ((e : Drawing) → DrawingOnGrid e → RecordOnGrid (r e)) → ((e : Drawing) → DrawingOnGrid e → DrawingOnGrid (f e)) → OutcomeOnGrid (marked r f d)
 marked-grid r f d g h k = then-grid (close d) _ (close-grid d g) (λ e i. (k e i, (h e i, tt)))
@@ -483,7 +532,7 @@ reset-grid d g =
         at-field = fresh-field;
         at-bytes = p .at-bytes;
       },
-      record { at-start = g .1 .at-start; at-middle = g .1 .at-middle; at-pel = origin-grid },
+      record { at-start = g .1 .at-start; at-kept = g .1 .at-kept; at-pel = origin-grid },
     )
 
 pub act-grid : (a : Action) (d : Drawing) → DrawingOnGrid d → OutcomeOnGrid (act a d)
@@ -508,5 +557,5 @@ fresh-grid = (
     at-field = fresh-field;
     at-bytes = omega arith;
   },
-  record { at-start = origin-grid; at-middle = origin-grid; at-pel = origin-grid },
+  record { at-start = origin-grid; at-kept = origin-grid; at-pel = origin-grid },
 )

@@ -1,6 +1,6 @@
 -- The table of opcodes: its rows say what the bullets of "Operands and opcodes" say, group by group; and a row found by its place
 use Rattle.rules.specs.Prelude.{ℕ, zero, suc, _-_, _%_, arith, _≡_, refl, sym, _∙_, _&&_, List, [], _∷_, _++_, map, getD, replicate, ltb, leb, eqb, ltb-true}
-use Rattle.rules.specs.Types.{Due, First, Second, Third, Role, MoveTo, Start}
+use Rattle.rules.specs.Types.{Due, First, Second, Third, IncrementalLine, IncrementalPolygon, Role, MoveTo, Start, StepSize, LineCodes, PolygonCodes}
 use Rattle.rules.specs.Drawing.{other, rows, rowOf, roleOf}
 use Rattle.rules.proofs.Bools.{by-test, pick-yes, pick-no}
 use Rattle.rules.proofs.Compute.{rules}
@@ -47,6 +47,15 @@ seconds-as-said = refl
 thirds-as-said : map (λ c. roleAt c Third) (46 ∷ 47 ∷ []) ≡ map (λ c. roleAt (c - 2) Second) (46 ∷ 47 ∷ [])
 unfolding rules
 thirds-as-said = refl
+
+-- 02, 5/13: "the step size", then "three moves to a data byte"
+line-as-said : map (roleOf IncrementalLine) (First ∷ Second ∷ Third ∷ []) ≡ StepSize ∷ replicate 2 LineCodes
+unfolding rules
+line-as-said = refl
+
+polygon-as-said : map (roleOf IncrementalPolygon) (First ∷ Second ∷ Third ∷ []) ≡ StepSize ∷ replicate 2 PolygonCodes
+unfolding rules
+polygon-as-said = refl
 
 -- The row at the place of a code; that of a code below 2/0 is at the first place, whose opcode is not read
 pub row-at : (o : ℕ) → getD rows (o - 32) other ≡ rowOf o

@@ -1,15 +1,17 @@
 -- What is claimed of every page, cut, buffer and macro, proved in proofs/Cutting, Expanding and Demand3; of the coordinates of every
--- record and of the cursor, proved in proofs/Places; of colours cut short, proved in proofs/Colours; and of CAN, proved in
--- proofs/Cancelling
-use Rattle.rules.specs.Prelude.{ℕ, suc, _*_, _-_, _/_, _%_, _^_, _<_, _≤_, _≡_, Bool, true, false, _||_, List, [], _∷_, _++_, length, take, eqb}
-use Rattle.rules.specs.Types.{Done, Full, Pdi, Close, Point, Text, Record, Reach, Drawing, Refusal, Aps, Nsr}
+-- record and of the cursor, proved in proofs/Places; of colours cut short, proved in proofs/Colours; of CAN, proved in
+-- proofs/Cancelling; and of incremental outlines, proved in proofs/Outlines
+use Rattle.rules.specs.Prelude.{ℕ, suc, _+_, _*_, _-_, _/_, _%_, _^_, _<_, _≤_, _≡_, Bool, true, false, _||_, List, [], _∷_, _++_, length, take, eqb}
+use Rattle.rules.specs.Types.{Done, Full, Pdi, Close, Point, Text, Record, Reach, Second, Outline, Polygon, Drawing, Refusal, TooManyVertices, Aps, Nsr}
 use Rattle.rules.specs.Types.{Waiting, Nothing, Shifted, Escape, Designator, Longer, Name, Body, BodyEscape, Row·waiting as Row, Column}
-use Rattle.rules.specs.Numbers.{can, screenSide}
+use Rattle.rules.specs.Numbers.{can, mostVertices, screenSide}
+use Rattle.rules.specs.Operands.{wrappedSum}
 use Rattle.rules.specs.Record.{bytesOfAll}
 use Rattle.rules.specs.Text.{positive, fieldFits, fieldBox}
 use Rattle.rules.specs.Bodies.{bytesLeft, leaveAll}
 use Rattle.rules.specs.Coding.{wait, setOf}
-use Rattle.rules.specs.Drawing.{NotDrawn, Draw, shadeTo, closed, controlRecord, act}
+use Rattle.rules.specs.Increments.{namesX, namesY, changeDue, movesIn}
+use Rattle.rules.specs.Drawing.{withCommand, withDue, withStep, Outcome, NotDrawn, Draw, applyCode, applyCodes, shadeTo, closed, controlRecord, act}
 use Rattle.rules.specs.Step.{State, stepped, removeSpent, Source, Found, seek, Stops, Goes, interpret}
 use Rattle.rules.specs.Reading.{Reading, Limit, Steps, readTo, undivided, Waits}
 use Rattle.rules.specs.Calls.{Terms, freshState, end, Lent, feeds, lentBytes}
@@ -203,3 +205,35 @@ ExpandsCancel w bs =
     (n : ℕ) (held r : List ℕ) (v u : State) (s : Source) (rs : List Record)
     → seek (removeSpent w) bs ≡ Found can v s r → interpret v s can ≡ Goes u rs
     → (expand (suc n) w bs held ≡ undropped (w .session .coding) can held ++ (can ∷ expand n u r [])) × (u .session .bodies .depth ≡ 0)
+
+-- Incremental outlines
+
+-- An outcome that is no refusal
+abbrev pub Draws : Outcome → Type 0
+Draws (NotDrawn r) = ⊥
+Draws (Draw e rs) = Unit {0}
+
+-- The vertices that a polygon would have after codes: those that it has, and one for each move among them
+abbrev pub verticesAfter : List ℕ → Drawing → ℕ
+verticesAfter cs d = d .command .vertices + movesIn Polygon cs (changeDue (d .command .due))
+
+-- 02, 5/13: "The vertex limit and the polygon's closing apply to 3/11, ..", 01: "A refused step changes nothing but the stop". The codes of
+-- a data byte, or any others, of a polygon are refused exactly when their moves lead over the limit, be it the first of them or a later one
+-- that does, and then nothing of them is written or moved; else they draw
+pub record RefusesWhole (filled : Bool) (cs : List ℕ) (d : Drawing) : Type 0 where
+  pub over : mostVertices < verticesAfter cs d → applyCodes Polygon filled cs d ≡ NotDrawn TooManyVertices
+  pub within : verticesAfter cs d ≤ mostVertices → Draws (applyCodes Polygon filled cs d)
+
+-- A coordinate of the step before and after a change of sign: where the code names it, the 32-bit one that makes 0 with it, wrapping; else
+-- itself
+abbrev pub SignChanges : Bool → ℕ → ℕ → Type 0
+SignChanges true n m = (m < 2 ^ 32) × (wrappedSum n m ≡ 0)
+SignChanges false n m = m ≡ n
+
+-- 02, 5/13: "A sign change wraps at 32 bits and marks nothing." No record is written; pen, look and map stay, and of the command all but
+-- the step and what is due, which is a move
+pub record ChangesSign (o : Outline) (filled : Bool) (code : ℕ) (d : Drawing) : Type 0 where
+  pub step : Point
+  pub does : applyCode o filled code d ≡ Draw (withCommand (withDue Second (withStep step (d .command .noted) (d .command))) d) []
+  pub dx : SignChanges (namesX code) (d .command .kept .x) (step .x)
+  pub dy : SignChanges (namesY code) (d .command .kept .y) (step .y)

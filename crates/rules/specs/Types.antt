@@ -59,6 +59,8 @@ pub use Rattle.rules.specs.declared.Coordinate.{Coordinate}
 pub use Rattle.rules.specs.declared.Pen.{Pen}
 pub use Rattle.rules.specs.declared.Due.{Due}
 pub use Rattle.rules.specs.declared.Due.the-variants.{First, Second, Third, Past}
+pub use Rattle.rules.specs.declared.Outline.{Outline}
+pub use Rattle.rules.specs.declared.Outline.the-variants.{Line, Polygon}
 pub use Rattle.rules.specs.declared.Command.{Command}
 pub use Rattle.rules.specs.declared.Domain.{Domain}
 pub use Rattle.rules.specs.declared.Mode.{Mode}
@@ -67,10 +69,10 @@ pub use Rattle.rules.specs.declared.Colour.{Colour}
 pub use Rattle.rules.specs.declared.Look.{Look}
 pub use Rattle.rules.specs.declared.Drawing.{Drawing}
 pub use Rattle.rules.specs.declared.Pattern.{Pattern}
-pub use Rattle.rules.specs.declared.Pattern.the-variants.{A, D, AA, AD, ArcDD, ArcADD, PolygonD, PolygonAD, Domain as Domain·pattern, Text as Text·pattern, SelectColour, SetColour, Skipped}
+pub use Rattle.rules.specs.declared.Pattern.the-variants.{A, D, AA, AD, ArcDD, ArcADD, PolygonD, PolygonAD, IncrementalLine, IncrementalPolygon, Domain as Domain·pattern, Text as Text·pattern, SelectColour, SetColour, Skipped}
 pub use Rattle.rules.specs.declared.Row.{Row}
 pub use Rattle.rules.specs.declared.Role.{Role}
-pub use Rattle.rules.specs.declared.Role.the-variants.{MoveTo, DrawTo, DrawBy, Middle, ArcEnd, Start, Edge, Lengths, Pel, TextFirst, TextSecond, TextField, TextMore, Foreground, Background, Shade as Shade·role, Dropped}
+pub use Rattle.rules.specs.declared.Role.the-variants.{MoveTo, DrawTo, DrawBy, Middle, ArcEnd, Start, Edge, StepSize, LineCodes, PolygonCodes, Lengths, Pel, TextFirst, TextSecond, TextField, TextMore, Foreground, Background, Shade as Shade·role, Dropped}
 pub use Rattle.rules.specs.declared.Record.{Record}
 pub use Rattle.rules.specs.declared.Refusal.{Refusal}
 pub use Rattle.rules.specs.declared.Refusal.the-variants.{BudgetUsed, ByteOver127, NameBelow, Unsupported, DefinitionInBody, StoreFull, TooDeep, TooManyVertices, EndInside, BodyBytesLeft, StoreSize, OutOfRange, AfterEnd, AddressOver15}

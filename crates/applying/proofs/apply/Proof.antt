@@ -8,7 +8,7 @@ draw-point-requires : tie.Need-draw-point-requires
 draw-point-requires c κs =
     let match· = c .before .match in
     let pre· = c .before .before .before .before .before .before .pre in
-    (point-role _ (match· .keys11), pre· .2)
+    (point-role _ (match· .keys14), pre· .2)
 
 returns-2 : tie.Need-returns-2
 unfolding apply
@@ -33,11 +33,19 @@ returns-9 c =
     let set-shade· = c .before .before .set-shade in
     rw (enum-told9· .given .1) (set-shade· .ensures)
 
-returns-11 : tie.Need-returns-11
-returns-11 c =
+returns-14 : tie.Need-returns-14
+returns-14 c =
     let draw-point· = c .before .before .draw-point in
     let point-of· = c .before .before .before .before .before .point-of in
     draw-point· .ensures _ (point-of· .ensures) _
+
+returns-11 : tie.Need-returns-11
+unfolding apply
+returns-11 c =
+    let enum-told11· = c .before .enum-told11 in
+    let point-of· = c .before .before .before .point-of in
+    let set-step· = c .set-step in
+    rw (enum-told11· .given .1, ← point-of· .ensures) (set-step· .ensures _ _)
 
 pub apply-spec : {M : Type 1} → statement M
 unfolding apply
@@ -65,6 +73,12 @@ apply-spec =
     (λ c κs. search needs)
     (λ c. search needs)
     (λ c κs. tt)
+    (λ c. search needs)
+    (λ c κs. tt)
+    (λ c. search needs)
+    (λ c κs. tt)
+    (λ c. search needs)
+    (λ c κs. tt)
     draw-point-requires
     (λ c. rw (c .before .enum-told .given .1) (c .set-lengths .ensures _ _))
     returns-2
@@ -77,5 +91,8 @@ apply-spec =
     (λ c. search needs)
     returns-9
     (λ c. rw (c .before .enum-told10 .given .1) (c .no-record2 .ensures _ _))
+    returns-11
+    (λ c. rw (c .before .enum-told12 .given .1) (c .no-record3 .ensures _ _))
+    (λ c. rw (c .before .enum-told13 .given .1) (c .no-record4 .ensures _ _))
     (λ c. search needs)
-    returns-11)
+    returns-14)

@@ -1,8 +1,8 @@
-use Rattle.drawing.proofs.Prelude.{le-of-lt, arith, _∙_, needs}
+use Rattle.drawing.proofs.Prelude.{le-of-lt, _∙_, needs}
 use Rattle.rules.specs.Drawing.{act}
 use Rattle.figures.specs.Carried.{carry}
 use Rattle.drawing.specs.After.{afterClosing}
-use Rattle.drawing.proofs.RangeLaws.{count-most, foreground-most}
+use Rattle.drawing.proofs.RangeLaws.{count-most, foreground-most, vertices-most}
 use Rattle.drawing.proofs.AfterLaws.{closes-alone}
 use Rattle.drawing.proofs.act.Statement.{statement}
 use Rattle.drawing.proofs.act.Tie as tie
@@ -10,7 +10,7 @@ use Rattle.drawing.proofs.act.Tie as tie
 data-byte-requires : tie.Need-data-byte-requires
 data-byte-requires c κs =
     let pre· = c .before .before .before .before .before .before .before .pre in
-    (count-most _ (pre· .0), foreground-most _ (pre· .0), omega (arith, pre· .1))
+    (count-most _ (pre· .0), foreground-most _ (pre· .0), vertices-most _ (pre· .0), pre· .1)
 
 close-and-requires : tie.Need-close-and-requires
 close-and-requires c κs =

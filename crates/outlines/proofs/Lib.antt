@@ -1,0 +1,3 @@
+pub mod TrailLaws
+pub mod CodeLaws
+pub mod ByteLaws
