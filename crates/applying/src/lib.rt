@@ -1,4 +1,6 @@
 // Operands applied: what a complete operand draws and changes, by its role.
+#![tactic(auto)]
+
 pub mod colours;
 pub mod domains;
 pub mod increments;

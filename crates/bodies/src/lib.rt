@@ -1,4 +1,6 @@
 // The stack of running macro bodies, outermost first, lent as two arrays beside the depth.
+#![tactic(auto)]
+
 pub mod calls;
 
 ghost use Rattle.std.specs.Prelude.{◌≡◌, ℕ, ◌-◌, ◌<◌, ◌≤◌, length, set};

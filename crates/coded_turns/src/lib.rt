@@ -1,4 +1,6 @@
 // Runs of a reading over bytes of the piece that write no record, and what every run asks: how far it may go, and the set that is read from.
+#![tactic(auto)]
+
 pub mod coded;
 
 ghost use Rattle.std.specs.Prelude.{◌≡◌, true, ◌+◌, ◌-◌, ◌≤◌};

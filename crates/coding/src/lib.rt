@@ -1,4 +1,6 @@
 // The coding layer: what a byte does by what is waited for. It asks an action of drawing, calls a macro or is refused.
+#![tactic(auto)]
+
 pub mod defining;
 
 ghost use Rattle.std.specs.Prelude.{◌≡◌, true};

@@ -15,7 +15,7 @@ const OPENS: u8 = 64;
 const ENDS: u8 = 69;
 
 // How many bytes were read, and what is waited for after them.
-#[derive(Drop)]
+#[derive(Clone, Copy)]
 pub struct Defined {
     pub count: usize,
     pub waiting: Waiting,

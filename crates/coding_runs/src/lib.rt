@@ -1,4 +1,6 @@
 // Runs of idle bytes: those that ask nothing of drawing and call no macro, many in one call.
+#![tactic(auto)]
+
 pub mod defining;
 
 ghost use Rattle.std.specs.Prelude.{length, true, ◌≡◌, ◌+◌, ◌<◌, ◌≤◌};
@@ -13,7 +15,7 @@ use reactions::{Effect, sets_after};
 use rules::{Action, Sets, Waiting};
 
 // How many bytes were read, and the state after them. First cells and store are lent beside.
-#[derive(Drop)]
+#[derive(Clone, Copy)]
 pub struct Idled {
     pub count: usize,
     pub sets: Sets,

@@ -1,4 +1,6 @@
 // A run of the PDI set: points that come whole, opcodes and recorded controls.
+#![tactic(auto)]
+
 ghost use Rattle.std.specs.Prelude.{◌≡◌, true, false, ◌+◌, ◌≤◌, length};
 ghost use Rattle.rules.specs.declared.Operand.{Operand};
 ghost use Rattle.rules.specs.declared.Role.{Role};

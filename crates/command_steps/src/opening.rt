@@ -17,7 +17,7 @@ use records::Head;
 use rules::{Command, ORIGIN, Point, RECORD_SIZE, Row};
 
 // The place after the records, the drawing point and whether it was moved, and the command that is open.
-#[derive(Drop)]
+#[derive(Clone, Copy)]
 pub struct Next {
     pub at: usize,
     pub moved: bool,

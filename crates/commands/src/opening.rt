@@ -15,7 +15,7 @@ use records::{Head, put_words, with_code, with_kind};
 use rules::{Command, ORIGIN, Point, RECORD_SIZE, Row};
 
 // The place after the records, and the command that is open.
-#[derive(Drop)]
+#[derive(Clone, Copy)]
 pub struct Opened {
     pub at: usize,
     pub command: Command,

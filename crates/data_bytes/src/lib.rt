@@ -1,4 +1,6 @@
 // Operands: data bytes join the one that is due, and the last of them applies it.
+#![tactic(auto)]
+
 ghost use Rattle.std.specs.Prelude.{◌≡◌, [], suc, ◌+◌, ◌<◌, ◌≤◌, length, set};
 ghost use Rattle.rules.specs.Numbers.{record_size, room_for_step, most_vertices};
 ghost use Rattle.rules.specs.Drawing.{role_of, due_after, with_due, no_operand, Draw, next_operand, apply_begun, loose_byte, data_byte};

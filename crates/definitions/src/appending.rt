@@ -8,7 +8,7 @@ use rules::{Definition, MOST_BYTES, Refusal};
 use store::cells::{count_of, good_count, next_of, set_body_byte, set_count, set_next};
 use store::names::set_first;
 
-#[derive(Drop)]
+#[derive(Clone, Copy)]
 pub enum StoreAnswer {
     Done(Definition),
     Refused(Refusal),

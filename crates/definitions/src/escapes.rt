@@ -10,7 +10,7 @@ use rules::{Definition, ESC, MOST_BYTES, Refusal};
 use store::cells::{count_of, good_count, next_of};
 
 // Whether bytes can be stored, tested before the first is.
-#[derive(Drop)]
+#[derive(Clone, Copy)]
 enum Room {
     Enough,
     Refused(Refusal),

@@ -9,7 +9,7 @@ use rules::{Definition, ESC, MOST_BYTES};
 use store::cells::{count_of, good_count, lay_bytes, set_count};
 
 // How many bytes were stored, and the last cell after them.
-#[derive(Drop)]
+#[derive(Clone, Copy)]
 pub struct Filled {
     pub count: usize,
     pub last: u8,

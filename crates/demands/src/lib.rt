@@ -1,4 +1,6 @@
 // A page read in pieces of any lengths, into buffers of any sizes: demand 3 as the contract of functions that make the calls.
+#![tactic(auto)]
+
 ghost use Rattle.std.specs.Prelude.{◌≡◌, ◌+◌, ◌≤◌, min, length, get_or};
 ghost use Rattle.rules.specs.Numbers.{store_size};
 ghost use Rattle.rules.specs.declared.Answer.TheVariants.{Done};
@@ -15,7 +17,7 @@ use reader::open::open;
 use rules::{Answer, Fed, Session};
 
 // What calls on a page came to, and calls on another.
-#[derive(Drop)]
+#[derive(Clone, Copy)]
 pub struct Both {
     pub page: Fed,
     pub other: Fed,

@@ -1,4 +1,6 @@
 // Numbers as text: what puts them at a place answers the place after it.
+#![tactic(auto)]
+
 ghost use Rattle.std.specs.Prelude.{◌≡◌, [], ◌∷◌, ◌+◌, ◌≤◌, ◌<◌, length};
 ghost use Rattle.digits.specs.Decimal.{decimal, two_digits, four_digits, signed_decimal, Put};
 

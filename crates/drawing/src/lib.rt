@@ -1,4 +1,6 @@
 // The drawing layer: an action becomes records and a change of the drawing state, or a refusal.
+#![tactic(auto)]
+
 ghost use Rattle.std.specs.Prelude.{◌≡◌, true, ◌+◌, ◌≤◌, length};
 ghost use Rattle.rules.specs.Numbers.{record_size, room_for_step};
 ghost use Rattle.rules.specs.Record.{mark, bytes_of};

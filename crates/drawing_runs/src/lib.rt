@@ -1,4 +1,6 @@
 // Runs: many bytes of one set at once, each a step of its own.
+#![tactic(auto)]
+
 pub mod strokes;
 
 ghost use Rattle.std.specs.Prelude.{ℕ, ◌+◌, ◌*◌, ◌<◌, ◌≤◌};
@@ -8,7 +10,7 @@ use pens::tips::Tip;
 use rules::{Command, Pen, Point, RECORD_SIZE, ROOM_FOR_STEP};
 
 // How many bytes a run took, the place after their records, and what they left.
-#[derive(Drop)]
+#[derive(Clone, Copy)]
 pub struct Ran {
     pub count: usize,
     pub at: usize,
@@ -17,7 +19,7 @@ pub struct Ran {
 }
 
 // The same of a run that looks at no text: the point, and whether it was moved.
-#[derive(Drop)]
+#[derive(Clone, Copy)]
 pub struct Passed {
     pub count: usize,
     pub at: usize,
@@ -27,7 +29,7 @@ pub struct Passed {
 }
 
 // The same of a run with the pen apart from its text.
-#[derive(Drop)]
+#[derive(Clone, Copy)]
 pub struct Drew {
     pub count: usize,
     pub at: usize,

@@ -21,14 +21,14 @@ pub fn is_stroke(opcode: u8) -> bool {
 }
 
 // How many bytes were taken, and the last point.
-#[derive(Drop)]
+#[derive(Clone, Copy)]
 struct Moved {
     count: usize,
     point: Point,
 }
 
 // The same, and the place after the records.
-#[derive(Drop)]
+#[derive(Clone, Copy)]
 pub struct Lined {
     pub count: usize,
     pub at: usize,

@@ -1,4 +1,6 @@
 // The end of a page, once the tests of what is lent are passed.
+#![tactic(auto)]
+
 ghost use Rattle.std.specs.Prelude.{◌≡◌, List, ℕ, ◌≤◌, length, true};
 ghost use Rattle.rules.specs.Numbers.{room_for_step};
 ghost use Rattle.rules.specs.Drawing.{act, closed};

@@ -2,6 +2,8 @@
 // the steps, then a byte of the output, so that no compiler can leave the records out. An argument says how often the page
 // is read, each time from its start and from an opened session; standard input has to be a file for more than once. A read
 // or a write that fails is said on standard error and ends the program.
+#![tactic(auto)]
+
 ghost use Rattle.std.specs.Prelude.{◌≡◌, ◌<◌};
 ghost use Rattle.io.specs.Counts.{IsPrefixLen};
 ghost use Rattle.rules.specs.Step.{state_lent};
@@ -17,7 +19,7 @@ use rules::{Answer, STORE_SIZE, Session};
 const MOST_ROUNDS: u32 = 1000000;
 
 // What follows a piece: the next piece, the end of the page, or nothing, since a read failed.
-#[derive(Drop)]
+#[derive(Clone, Copy)]
 enum Next {
     Read,
     End,
@@ -25,7 +27,7 @@ enum Next {
 }
 
 // The session that a piece leaves, and what follows it.
-#[derive(Drop)]
+#[derive(Clone, Copy)]
 struct Handover {
     session: Session,
     next: Next,
@@ -98,7 +100,7 @@ fn feed_piece(
 }
 
 // What a read brought: how many bytes, and what follows.
-#[derive(Drop)]
+#[derive(Clone, Copy)]
 struct Got {
     count: usize,
     next: Next,

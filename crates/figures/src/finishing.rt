@@ -9,7 +9,7 @@ use records::flags;
 use rules::{Command, Point, Role, Row};
 
 // The figure that finishes a command, then the drawing point, and whether it was moved.
-#[derive(Drop)]
+#[derive(Clone, Copy)]
 pub struct Finished {
     pub figure: Figure,
     pub moved: bool,

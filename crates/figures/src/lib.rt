@@ -1,4 +1,6 @@
 // The figures that operands and the end of a command draw, and how a record is put and the state answered.
+#![tactic(auto)]
+
 pub mod answers;
 pub mod finishing;
 pub mod tracing;
@@ -7,7 +9,7 @@ use rules::{Command, Look, Pen};
 
 // What a function of the drawing layer answers. It refuses one vertex too many, and then leaves the state, the output and the
 // place in it.
-#[derive(Drop)]
+#[derive(Clone, Copy)]
 pub struct Drawn {
     pub too_many_vertices: bool,
     pub at: usize,

@@ -12,7 +12,7 @@ use records::{Head, flags, put_words, with_kind};
 use rules::{Command, MOST_VERTICES, ORIGIN, Point, RECORD_SIZE, Role, Row};
 
 // What a record shows of an operand, beside the look. A figure of kind 0 writes no record.
-#[derive(Drop)]
+#[derive(Clone, Copy)]
 pub struct Figure {
     pub kind: u8,
     pub flags: u8,
@@ -22,7 +22,7 @@ pub struct Figure {
 }
 
 // The figure of a point, then the drawing point and the open command.
-#[derive(Drop)]
+#[derive(Clone, Copy)]
 pub struct Traced {
     pub figure: Figure,
     pub point: Point,

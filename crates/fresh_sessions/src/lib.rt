@@ -1,2 +1,4 @@
 // Sessions as they are opened, with their store.
+#![tactic(auto)]
+
 pub mod open;

@@ -1,6 +1,8 @@
 // What no honest caller would lend: stores of other sizes, sessions with a field out of range, stores whose chains loop,
 // buffers too small, calls after the end and after a stop. Each case prints the call, its number and its counts.
 // The file stdout is worked out from documents 01 and 02 by hand.
+#![tactic(auto)]
+
 mod calls;
 mod cells;
 mod increments;

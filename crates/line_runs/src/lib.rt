@@ -1,4 +1,6 @@
 // Characters on one line.
+#![tactic(auto)]
+
 ghost use Rattle.std.specs.Prelude.{◌≡◌, ◌+◌, ◌-◌, ◌≤◌, Bool, true, false, length};
 ghost use Rattle.rules.specs.Text.{spaces};
 ghost use Rattle.text_lines.specs.Line.{Straight};
@@ -24,7 +26,7 @@ fn last_character(set: Repertoire) -> u8
 
 // What the records of a run have in common: the set and the last character of it, the head of every record and that of
 // a character, and the pel.
-#[derive(Drop)]
+#[derive(Clone, Copy)]
 pub struct Common {
     pub set: Repertoire,
     pub last: u8,
@@ -52,21 +54,21 @@ pub fn common_of(set: Repertoire, look: Look) -> Common
 }
 
 // A text that goes on alone: where the cursor was moved, the drawing point is yet to be aligned with it.
-#[derive(Drop)]
+#[derive(Clone, Copy)]
 pub struct Hand {
     pub moved: bool,
     pub text: Text,
 }
 
 // How many characters were put, and the text after them.
-#[derive(Drop)]
+#[derive(Clone, Copy)]
 pub struct Put {
     pub count: usize,
     pub hand: Hand,
 }
 
 // How many characters were put on a line, and the packed cursor after them.
-#[derive(Drop)]
+#[derive(Clone, Copy)]
 struct Lined {
     count: usize,
     cursor: u64,

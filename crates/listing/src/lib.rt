@@ -1,5 +1,7 @@
 // Records as lines of text: the fields in order as decimal numbers, with a blank between them.
 // What puts text at a place answers the place after it.
+#![tactic(auto)]
+
 ghost use Rattle.std.specs.Prelude.{◌≡◌, ◌+◌, ◌*◌, ◌/◌, ◌≤◌, ◌<◌, min, length};
 ghost use Rattle.io.specs.Counts.{IsPrefixLen};
 ghost use Rattle.digits.specs.Decimal.{Put};

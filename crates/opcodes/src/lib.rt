@@ -1,4 +1,6 @@
 // The opcodes: what each one draws, and what its operands are for.
+#![tactic(auto)]
+
 ghost use Rattle.std.specs.Prelude.{◌≡◌, ◌-◌};
 ghost use Rattle.rules.specs.Drawing.{rows, row_of, nth, role_of, advanced, due_after, length_of};
 
@@ -222,7 +224,7 @@ fn nth_role(n: Due, first: Role, second: Role, third: Role, past: Role) -> Role
 }
 
 // What the operands of a pattern are for, in their order.
-#[derive(Drop)]
+#[derive(Clone, Copy)]
 struct Roles {
     first: Role,
     second: Role,

@@ -1,5 +1,5 @@
 -- Operands whose bytes have all come
-use Rattle.operands.specs.Prelude.{◌≡◌, refl, sym, ap, ◌∙◌, Bool, true, false, not, ◌&&◌, List, [], ◌∷◌, ◌++◌, ℕ, zero, suc, ◌+◌, ◌*◌, ◌/◌, ◌%◌, ◌≤◌, ◌<◌, le_of_suc-le-suc, not-suc-le-zero, add-one, arith, leb, eqb, length, get_or, take, drop, length-drop, take-suc, drop-cons, get_d_drop, length-take-le, get_or-take, leb-true, leb-false, eq-eqb, ne_eqb, eqb-true, not_true}
+use Rattle.operands.specs.Prelude.{◌≡◌, refl, sym, ap, ◌∙◌, Bool, true, false, not, ◌&&◌, List, [], ◌∷◌, ◌++◌, ℕ, zero, suc, ◌+◌, ◌*◌, ◌/◌, ◌%◌, ◌≤◌, ◌<◌, le_of_suc-le-suc, not-suc-le-zero, add-one, arith, leb, eqb, length, get_or, take, drop, length-drop, take-suc, drop-cons, get_d_drop, length-take-le, get_or-take, leb-true, leb-false, eq-eqb, ne_eqb, eqb-true, not-true}
 use Rattle.rules.specs.declared.Point.{Point}
 use Rattle.rules.specs.Operands.{bits_of, from_top, point, is_data, all_data}
 use Rattle.rules.proofs.Bools.{true_false, and_left, and_right, and_both, by_test, pick_yes, pick_no}
@@ -198,4 +198,4 @@ long_whole bs at n i three p h k e a =
 pub is_three : (n : ℕ) (three t : Bool) → t ≡ (eqb n 3 && not three) → t ≡ true → (n ≡ 3) × (three ≡ false)
 is_three n three t e f =
     let g = sym e ∙ f in
-    (eqb-true n 3 (and_left (eqb n 3) (not three) g), not_true three (and_right (eqb n 3) (not three) g))
+    (eqb-true n 3 (and_left (eqb n 3) (not three) g), not-true three (and_right (eqb n 3) (not three) g))

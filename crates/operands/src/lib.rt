@@ -1,4 +1,6 @@
 // Coordinates of 32 bits: sums that wrap, and what the bytes of an operand stand for.
+#![tactic(auto)]
+
 pub mod whole;
 
 ghost use Rattle.std.specs.Prelude.{◌≡◌, ◌+◌, ◌*◌, ◌%◌, ◌^◌, ◌<◌, ◌≤◌, length, slice_index};
@@ -13,21 +15,21 @@ use rules::{Domain, Operand, Point};
 const NEGATIVE: u32 = 0x8000_0000;
 
 // A sum wrapped at 32 bits, and whether the sum of the numbers left the range.
-#[derive(Drop)]
+#[derive(Clone, Copy)]
 pub struct Sum {
     pub value: u32,
     pub outside: bool,
 }
 
 // A point displaced, and whether one of its sums left the range.
-#[derive(Drop)]
+#[derive(Clone, Copy)]
 pub struct Displaced {
     pub point: Point,
     pub outside: bool,
 }
 
 // The intensities of the three colours.
-#[derive(Drop)]
+#[derive(Clone, Copy)]
 pub struct Hue {
     pub green: u8,
     pub red: u8,

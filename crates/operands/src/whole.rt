@@ -7,7 +7,7 @@ use crate::gather_byte;
 use rules::Point;
 
 // The point of an operand, or that not all its bytes are data.
-#[derive(Drop)]
+#[derive(Clone, Copy)]
 pub enum Whole {
     Cut,
     Whole(Point),

@@ -1,4 +1,6 @@
 // Runs of an incremental command's data: its step and its codes.
+#![tactic(auto)]
+
 ghost use Rattle.std.specs.Prelude.{◌≡◌, true, ◌+◌, ◌≤◌, length};
 ghost use Rattle.rules.specs.Numbers.{room_for_step};
 ghost use Rattle.rules.specs.Ranges.{domain_fits};

@@ -10,7 +10,7 @@ use rules::{Command, Due, Outline, Point};
 
 // How far an outline has come: the drawing point, and what codes change of the command. Its draw flag is off or on, and the next
 // code is a change or a move.
-#[derive(Drop)]
+#[derive(Clone, Copy)]
 pub struct Trail {
     pub point: Point,
     pub step: Point,

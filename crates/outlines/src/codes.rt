@@ -15,7 +15,7 @@ use records::{Head, flags, head_of, put_words};
 use rules::{Look, MOST_VERTICES, ORIGIN, Outline, Point, RECORD_SIZE};
 
 // The heads of the records of moves, by whether a sum left the range, and the pel.
-#[derive(Drop)]
+#[derive(Clone, Copy)]
 pub struct Inks {
     pub plain: Head,
     pub wrapped: Head,
@@ -23,7 +23,7 @@ pub struct Inks {
 }
 
 // The place after the records, whether the point was moved, and the trail.
-#[derive(Drop)]
+#[derive(Clone, Copy)]
 pub struct Coded {
     pub at: usize,
     pub moved: bool,

@@ -1,4 +1,6 @@
 // Incremental outlines: their step and their codes, as many bytes as come or the codes of one.
+#![tactic(auto)]
+
 pub mod changes;
 pub mod codes;
 
@@ -19,14 +21,14 @@ use operands::whole::{Whole, whole_point};
 use rules::{Command, Domain, Due, Look, Outline, Pen, Point, ROOM_FOR_STEP};
 
 // How many bytes of codes were carried out, and what they came to.
-#[derive(Drop)]
+#[derive(Clone, Copy)]
 struct CodeRun {
     count: usize,
     coded: Coded,
 }
 
 // How many bytes the step has, and the command after them.
-#[derive(Drop)]
+#[derive(Clone, Copy)]
 struct Stepped {
     count: usize,
     command: Command,

@@ -2,6 +2,8 @@
 // each of its places, and compares the text with the stored listing. The file `index` names the groups, a folder each, and `index`
 // in a folder its pages; those of `expansion` are expansions of other pages, listed with the records of these. A line is printed for each
 // group, one for all, and one for each reading that differs: page, cut and buffer.
+#![tactic(auto)]
+
 ghost use Rattle.std.specs.Prelude.{◌<◌, ◌≤◌, length};
 ghost use Rattle.io.specs.Counts.{IsPrefixLen};
 
@@ -32,7 +34,7 @@ const PART_SIZE: usize = 100 * RECORD_SIZE;
 const OUTPUT_SIZE: usize = RECORDS * RECORD_SIZE + 4000;
 
 // How much of a listing the text so far agrees with.
-#[derive(Drop)]
+#[derive(Clone, Copy)]
 enum Met {
     Upto(usize),
     Differs,

@@ -1,5 +1,7 @@
 // Lists the page on standard input: a line for each record as it is read, then `end`, the number of the end call and the
 // steps. After a refusal nothing more is read. A read or a write that fails is said on standard error and ends the program.
+#![tactic(auto)]
+
 ghost use Rattle.std.specs.Prelude.{◌≡◌, ◌<◌};
 ghost use Rattle.io.specs.Counts.{IsPrefixLen};
 ghost use Rattle.rules.specs.Reading.{steps_left};
@@ -26,7 +28,7 @@ const LINE_SIZE: usize = 128;
 const TEXT_SIZE: usize = RECORDS * LINE_SIZE;
 
 // What follows a piece: the next piece, the end of the page, or nothing, since a read or a write failed.
-#[derive(Drop)]
+#[derive(Clone, Copy)]
 enum Next {
     Read,
     End,
@@ -34,7 +36,7 @@ enum Next {
 }
 
 // The session that a piece leaves, and what follows it.
-#[derive(Drop)]
+#[derive(Clone, Copy)]
 struct Handover {
     session: Session,
     next: Next,

@@ -9,7 +9,7 @@ use rules::{Moving, Operand, Pair, Pen, Point, Text};
 use text::cursor::{cursor_at, follow};
 
 // The drawing point and the operand that is begun; behind says that the cursor has yet to follow the point.
-#[derive(Drop)]
+#[derive(Clone, Copy)]
 pub struct Tip {
     pub point: Point,
     pub operand: Operand,

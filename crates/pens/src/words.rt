@@ -94,7 +94,7 @@ fn second_byte(settings: Settings) -> u32
     interrow_code(interrow) + 4 * moving_code(moving) + 16 * style_code(style)
 }
 
-#[derive(Drop)]
+#[derive(Clone, Copy)]
 struct PairWords {
     state: u32,
     place: Point,

@@ -1,4 +1,6 @@
 // The places of APS and NSR, by row and column.
+#![tactic(auto)]
+
 ghost use Rattle.std.specs.Prelude.{◌≡◌, ◌-◌, ◌*◌, ◌≤◌};
 ghost use Rattle.rules.specs.Text.{addressed, positioned, placed_by};
 

@@ -1,4 +1,6 @@
 // How far a reading has come, and each way in which it goes on.
+#![tactic(auto)]
+
 pub mod handing;
 
 ghost use Rattle.std.specs.Prelude.{◌≡◌, ◌+◌, ◌≤◌, ◌<◌};
@@ -9,7 +11,7 @@ use pens::tips::{Tip, tip_of};
 use rules::{Command, Look, Sets, Waiting};
 
 // Where a reading stands between two steps. The drawing state and the arrays of the state are lent beside it.
-#[derive(Drop)]
+#[derive(Clone, Copy)]
 pub struct Progress {
     pub at: usize,
     pub written: usize,
@@ -20,7 +22,7 @@ pub struct Progress {
 }
 
 // The same with the drawing state, but for its map, and with its pen apart from the text.
-#[derive(Drop)]
+#[derive(Clone, Copy)]
 pub struct Reached {
     pub progress: Progress,
     pub tip: Tip,

@@ -1,4 +1,6 @@
 // The tests that come before a feed or an end: 12, then 14, stopped, 13.
+#![tactic(auto)]
+
 pub mod drawing_state;
 pub mod stack;
 pub mod waiting;

@@ -1,5 +1,7 @@
 // What a byte does outside macro definitions, by what is waited for: its effect, and what is waited for after it. The caller holds
 // the sets; first cells and store are lent.
+#![tactic(auto)]
+
 pub mod characters;
 pub mod escapes;
 pub mod positions;
@@ -12,7 +14,7 @@ use rules::{Action, Element, Refusal, Set, Sets, Waiting};
 use tables::sets::{designate, fresh_sets, in_use};
 
 // The last two say what changes of the sets and ask nothing of drawing. Of the others only the action of NSR changes them.
-#[derive(Drop)]
+#[derive(Clone, Copy)]
 pub enum Effect {
     Refuses(Refusal),
     Calls(u8),
@@ -22,7 +24,7 @@ pub enum Effect {
 }
 
 // After a refusal what is waited for says nothing.
-#[derive(Drop)]
+#[derive(Clone, Copy)]
 pub struct Reacted {
     pub effect: Effect,
     pub waiting: Waiting,

@@ -1,4 +1,6 @@
 // A reading of a piece, turn by turn and run by run, as far as the output has room.
+#![tactic(auto)]
+
 ghost use Rattle.std.specs.Prelude.{◌≡◌, ◌-◌, length};
 ghost use Rattle.rules.specs.Reading.{Room, reading, Valid};
 ghost use Rattle.rules.specs.Calls.{handed};

@@ -1,4 +1,6 @@
 // Records: their fields as the rules fill them, and their 40 bytes at a place of the output.
+#![tactic(auto)]
+
 ghost use Rattle.std.specs.Prelude.{◌≡◌, [], ◌∷◌, ◌++◌, ◌+◌, ◌≤◌, length, set};
 ghost use Rattle.rules.specs.Numbers.{record_size};
 ghost use Rattle.rules.specs.Record.{word, words, bytes_of, flag, flags, mode_number, set_number, record_of, mark, character_record, figure};
@@ -26,7 +28,7 @@ fn put_point(out: &mut [u8], at: usize, p: Point)
 }
 
 // The first eight bytes of a record as two numbers, lowest byte first.
-#[derive(Drop)]
+#[derive(Clone, Copy)]
 pub struct Head {
     pub first: u32,
     pub second: u32,
@@ -114,7 +116,7 @@ pub fn set_number(repertoire: Repertoire) -> u8
 }
 
 // The mode and the colour bytes of a record.
-#[derive(Drop)]
+#[derive(Clone, Copy)]
 struct Ink {
     mode: u8,
     colour0: u8,

@@ -1,4 +1,6 @@
 // Runs of TEXT's operands, put straight into the words that hold the text.
+#![tactic(auto)]
+
 ghost use Rattle.std.specs.Prelude.{◌≡◌, true, List, ℕ, ◌+◌, ◌≤◌, ◌<◌, length};
 ghost use Rattle.rules.specs.Numbers.{room_for_step};
 ghost use Rattle.rules.specs.Ranges.{domain_fits};
@@ -23,7 +25,7 @@ const TEXT_ROW: Row = Row {
 };
 
 // How many bytes were taken, and the command after them.
-#[derive(Drop)]
+#[derive(Clone, Copy)]
 struct Taken {
     count: usize,
     command: Command,

@@ -1,4 +1,6 @@
 // TEXT: its two bytes, its closing, and the default settings.
+#![tactic(auto)]
+
 ghost use Rattle.std.specs.Prelude.{◌≡◌};
 ghost use Rattle.rules.specs.Text.{coded, byte_one, byte_two, with_missing, with_settings, with_field, with_first, with_second, aligned, close_text, fresh_settings, fresh_text, reset_text};
 

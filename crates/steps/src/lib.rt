@@ -1,4 +1,6 @@
 // One step: a byte that was read is interpreted. All that can refuse it comes before the first change.
+#![tactic(auto)]
+
 ghost use Rattle.std.specs.Prelude.{◌≡◌, true, List, ℕ, ◌+◌, ◌≤◌, length};
 ghost use Rattle.rules.specs.Numbers.{room_for_step};
 ghost use Rattle.rules.specs.declared.Drawing.{Drawing};
@@ -27,14 +29,14 @@ use store::names::first_of;
 use tables::escapes::after_escape;
 
 // Where reading goes on once a byte is read: in the piece, and in the innermost body.
-#[derive(Drop)]
+#[derive(Clone, Copy)]
 pub struct Onward {
     pub at: usize,
     pub cursor: Cursor,
 }
 
 // A step was accepted, the reading ends, or the step is accepted if its action can be drawn.
-#[derive(Drop)]
+#[derive(Clone, Copy)]
 pub enum Course {
     GoesOn,
     Ends(Answer),
@@ -42,7 +44,7 @@ pub enum Course {
 }
 
 // The cursor is where the innermost body goes on once the action is drawn.
-#[derive(Drop)]
+#[derive(Clone, Copy)]
 pub struct Turned {
     pub course: Course,
     pub progress: Progress,

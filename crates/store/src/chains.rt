@@ -7,7 +7,7 @@ ghost use Rattle.store.specs.Freeing.{freeing_of, KeptIfRefused};
 use crate::cells::{next_of, set_next};
 use rules::{Chain, Refusal};
 
-#[derive(Drop)]
+#[derive(Clone, Copy)]
 pub enum FreeAnswer {
     Done,
     Refused(Refusal),

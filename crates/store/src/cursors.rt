@@ -9,7 +9,7 @@ use crate::cells::{body_byte, count_of, good_count, next_of, place_in_store};
 use rules::{Cursor, Read};
 
 // The next bytes of a body in the store, as far as they lie in one cell.
-#[derive(Drop)]
+#[derive(Clone, Copy)]
 pub struct Stretch {
     pub from: usize,
     pub to: usize,

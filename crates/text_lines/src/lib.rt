@@ -1,4 +1,6 @@
 // Characters on one line: how many there are before the field leaves the screen, and the step from each to the next.
+#![tactic(auto)]
+
 ghost use Rattle.std.specs.Prelude.{◌≡◌, ℕ, ◌<◌, true};
 ghost use Rattle.rules.specs.Text.{coordinate_of, held};
 ghost use Rattle.text_lines.specs.Line.{packed, unpacked, Within, IsStep, Straight};
@@ -9,7 +11,7 @@ use text::axis::{LAST, PATTERNS, coordinate_of, held, less, min, stride};
 use text::field::{field_box, spacing_quarters};
 
 // The cursor of so many characters is the last plus the step, as packed numbers.
-#[derive(Drop)]
+#[derive(Clone, Copy)]
 pub struct Line {
     pub most: u64,
     pub step: u64,

@@ -1,4 +1,6 @@
 // Runs of characters and format effectors.
+#![tactic(auto)]
+
 ghost use Rattle.std.specs.Prelude.{◌≡◌, true, ◌+◌, ◌*◌, ◌<◌, ◌≤◌, length, get_or};
 ghost use Rattle.rules.specs.Numbers.{room_for_step};
 ghost use Rattle.drawing_runs.specs.Run.{RunsTo};
@@ -19,7 +21,7 @@ use tables::controls::control_of;
 use text::cursor::aligned;
 
 // How many characters were put, and the pen after them; an operand that was begun before is still with it.
-#[derive(Drop)]
+#[derive(Clone, Copy)]
 struct Typed {
     count: usize,
     pen: Pen,

@@ -1,4 +1,6 @@
 // One turn of a reading where spent bodies are removed: the tests in their order, then a step.
+#![tactic(auto)]
+
 ghost use Rattle.std.specs.Prelude.{◌≡◌, true, List, ℕ, ◌≤◌, ◌<◌, ◌-◌, length, drop, ltb};
 ghost use Rattle.rules.specs.declared.Drawing.{Drawing};
 ghost use Rattle.rules.specs.Numbers.{room_for_step};

@@ -1,4 +1,4 @@
-use Rattle.applying.proofs.Prelude.{refl, sym, ◌∙◌, not_true, not-false, needs}
+use Rattle.applying.proofs.Prelude.{refl, sym, ◌∙◌, not-true, not-false, needs}
 use Rattle.figures.specs.Tracing.{Inks}
 use Rattle.figures.proofs.Carrying.{puts_carried}
 use Rattle.figures.proofs.TraceLaws.{point_refused}
@@ -10,7 +10,7 @@ returns c =
     let pre· = c.before.before.before.requires in
     let is-point· = c.before.is-point in
     let if1· = c.if1 in
-    λ bs e m. point_refused _ _ bs _ _ _ pre·.0 (sym is-point·.ensures ∙ not_true is-point·.result if1·.true)
+    λ bs e m. point_refused _ _ bs _ _ _ pre·.0 (sym is-point·.ensures ∙ not-true is-point·.result if1·.true)
 
 trace-requires : tie.Need-trace-requires
 trace-requires c κs =

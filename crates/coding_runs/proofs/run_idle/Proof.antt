@@ -1,4 +1,4 @@
-use Rattle.coding_runs.specs.Prelude.{◌≡◌, sym, ◌∙◌, ◌+◌, ◌-◌, ◌≤◌, arith, length, needs, not_true, not-false}
+use Rattle.coding_runs.specs.Prelude.{◌≡◌, sym, ◌∙◌, ◌+◌, ◌-◌, ◌≤◌, arith, length, needs, not-true, not-false}
 use Rattle.store.specs.Each.{none}
 use Rattle.store.proofs.EachLaws.{each_on, each_join}
 use Rattle.coding_runs.specs.Idle.{Idle, coded}
@@ -95,7 +95,7 @@ returns-2 c =
     let run-definition· = c.before.before.before.before.before.before.before.before.before.before.before.before.before.before.before.run-definition in
     let loop· = c.before.before.before.before.before.before.before.before.before.before.before.before.before.before.before.before.before.before.loop in
     let set-read· = c.before.before.before.before.before.before.before.before.set-read in
-    let kept = busy_keeps _ _ _ _ _ react·.result _ _ (react·.ensures.0 _ set-read·.ensures) (sym is-idle·.ensures ∙ not_true is-idle·.result if3·.true) react·.ensures.1 in
+    let kept = busy_keeps _ _ _ _ _ react·.result _ _ (react·.ensures.0 _ set-read·.ensures) (sym is-idle·.ensures ∙ not-true is-idle·.result if3·.true) react·.ensures.1 in
     let ran = idle_still _ _ _ _ _ _ _ _ _ _ _ _ _ if1·.false (run-definition·.ensures.0 _) loop·.invariant.2 in
     (rw (kept.0, kept.1) ran, loop·.invariant.0)
 

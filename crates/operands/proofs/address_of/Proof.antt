@@ -3,7 +3,7 @@ use Rattle.std.proofs.Common.{rules}
 use Rattle.operands.proofs.address_of.Statement.{statement}
 use Rattle.operands.proofs.address_of.Tie as tie
 
-byte-of-requires : tie.Need-byte-of-requires
+byte-of-requires : tie.Need-byte_of-requires
 byte-of-requires c κs = search rules
 
 returns : tie.Need-returns

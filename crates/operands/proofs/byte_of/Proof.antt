@@ -4,7 +4,7 @@ use Rattle.rules.proofs.Lists.{take_past}
 use Rattle.operands.proofs.byte_of.Statement.{statement}
 use Rattle.operands.proofs.byte_of.Tie as tie
 
-cast-n : tie.Need-overflow-cast-n
+cast-n : tie.Need-overflow_cast-n
 cast-n c = search needs
 
 returns : tie.Need-returns

@@ -3,10 +3,10 @@ use Rattle.std.proofs.Common.{rules}
 use Rattle.operands.proofs.gather_byte.Statement.{statement}
 use Rattle.operands.proofs.gather_byte.Tie as tie
 
-mul-shift : tie.Need-overflow-mul-shift
+mul-shift : tie.Need-overflow_mul-shift
 mul-shift c = search rules
 
-sub-shift : tie.Need-overflow-sub-shift
+sub-shift : tie.Need-overflow_sub-shift
 sub-shift c = search rules
 
 put-bits-requires : tie.Need-put-bits-requires

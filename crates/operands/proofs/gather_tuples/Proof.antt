@@ -4,7 +4,7 @@ use Rattle.operands.proofs.Operands.{tuple_most}
 use Rattle.operands.proofs.gather_tuples.Statement.{statement}
 use Rattle.operands.proofs.gather_tuples.Tie as tie
 
-gather-tuple-requires : tie.Need-gather-tuple-requires
+gather-tuple-requires : tie.Need-gather_tuple-requires
 gather-tuple-requires c κs = search needs
 
 gather-tuple-requires-2 : tie.Need-gather-tuple-requires-2

@@ -22,7 +22,7 @@ loop-holds : tie.Need-loop-init invariant-loop decreases-loop
 unfolding hue_after from_top
 loop-holds c = record { few = search needs; is = refl }
 
-byte-of-requires : tie.Need-byte-of-requires invariant-loop decreases-loop
+byte-of-requires : tie.Need-byte_of-requires invariant-loop decreases-loop
 byte-of-requires c κs = search needs
 
 gather-tuples-requires : tie.Need-gather-tuples-requires invariant-loop decreases-loop
@@ -30,7 +30,7 @@ gather-tuples-requires c κs =
     let l = c.before.before.loop in
     hue_most l.i (begun c.before.before.before.args.o) l.hue l.invariant.is (omega (arith, c.before.loop-test.true))
 
-add-i : tie.Need-overflow-add-i invariant-loop decreases-loop
+add-i : tie.Need-overflow_add-i invariant-loop decreases-loop
 add-i c = search needs
 
 loop-less : tie.Need-loop-smaller invariant-loop decreases-loop

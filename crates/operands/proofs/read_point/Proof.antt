@@ -25,7 +25,7 @@ shared-slice-read-gather-byte c = search needs
 gather-byte-requires : tie.Need-gather-byte-requires invariant-loop decreases-loop
 gather-byte-requires c κs = search needs
 
-add-i : tie.Need-overflow-add-i invariant-loop decreases-loop
+add-i : tie.Need-overflow_add-i invariant-loop decreases-loop
 add-i c = search needs
 
 loop-less : tie.Need-loop-smaller invariant-loop decreases-loop

@@ -1,4 +1,4 @@
-use Rattle.outlines.specs.Prelude.{needs, arith, now, ◌-◌, length, get_or, sym, ◌∙◌, not_true, not-false}
+use Rattle.outlines.specs.Prelude.{needs, arith, now, ◌-◌, length, get_or, sym, ◌∙◌, not-true, not-false}
 use Rattle.outlines.proofs.TraceLaws.{Tracing, tracing_first, tracing_on, trace_ends, takes_tells, taken_vertices}
 use Rattle.outlines.proofs.trace_codes.Statement.{statement}
 use Rattle.outlines.proofs.trace_codes.Tie as tie
@@ -41,7 +41,7 @@ returns c =
     let takes· = c.before.takes in
     let if1· = c.if1 in
     let w = loop·.invariant in
-    (w.traces, (omega (arith, w.least, w.most), λ h none. trace_ends _ _ _ _ _ _ _ _ _ w.least w.traces (sym takes·.ensures ∙ not_true takes·.result if1·.true) none))
+    (w.traces, (omega (arith, w.least, w.most), λ h none. trace_ends _ _ _ _ _ _ _ _ _ w.least w.traces (sym takes·.ensures ∙ not-true takes·.result if1·.true) none))
 
 apply-codes-requires : tie.Need-apply-codes-requires invariant-loop decreases-loop
 apply-codes-requires c κs =

@@ -1,4 +1,4 @@
-use Rattle.outlines.specs.Prelude.{needs, arith, now, ◌-◌, length, not_true, not-false}
+use Rattle.outlines.specs.Prelude.{needs, arith, now, ◌-◌, length, not-true, not-false}
 use Rattle.outlines.specs.Traces.{still}
 use Rattle.outlines.proofs.TraceLaws.{begun_codes, outline_traced, outline_ends}
 use Rattle.outlines.proofs.trace_outline.Statement.{statement}
@@ -16,7 +16,7 @@ returns c =
     let if1· = c.if1 in
     let pre· = c.before.before.before.before.before.before.requires in
     let take-step· = c.before.before.before.take_step in
-    let no = not_true is-code-due·.result if1·.true in
+    let no = not-true is-code-due·.result if1·.true in
     (still, (omega (arith, pre·.1), λ due h none. begun_codes take-step·.ensures.0 due is-code-due·.ensures.1 no))
 
 inks-of-requires : tie.Need-inks-of-requires

@@ -1,5 +1,5 @@
 use Rattle.ranges.proofs.VerdictLaws.{fits_not, fits_by}
-use Rattle.ranges.specs.Prelude.{not_true, not-false, refl, sym, ◌∙◌, needs}
+use Rattle.ranges.specs.Prelude.{not-true, not-false, refl, sym, ◌∙◌, needs}
 use Rattle.ranges.proofs.fits.Statement.{statement}
 use Rattle.ranges.proofs.fits.Tie as tie
 
@@ -11,7 +11,7 @@ returns c =
     let the-args = c.before.before.before.before.before.before.before.before.before.before.args in
     let bodies-fit· = c.before.bodies-fit in
     let if1· = c.if1 in
-    fits_not the-args.session (sym (bodies-fit·.ensures the-args.session.bodies.cells) ∙ not_true bodies-fit·.result if1·.taken)
+    fits_not the-args.session (sym (bodies-fit·.ensures the-args.session.bodies.cells) ∙ not-true bodies-fit·.result if1·.taken)
 
 waiting-fits-requires : tie.Need-waiting-fits-requires
 waiting-fits-requires c κs = search needs

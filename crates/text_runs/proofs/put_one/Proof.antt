@@ -1,4 +1,4 @@
-use Rattle.text_runs.proofs.Prelude.{refl, arith, now, not_true, not-false}
+use Rattle.text_runs.proofs.Prelude.{refl, arith, now, not-true, not-false}
 use Rattle.line_runs.proofs.CharacterLaws.{goes_none, goes_on}
 use borrow.Author.Rules.{rules}
 use Rattle.text_runs.proofs.put_one.Statement.{statement}
@@ -18,7 +18,7 @@ returns c =
     let the-args = c.before.before.before.before.before.args in
     let is-character· = c.before.is-character in
     let if1· = c.if1 in
-    (goes_none the-args.common (now the-args.bytes) the-args.from the-args.at the-args.count the-args.hand.moved the-args.hand.text _, (omega arith, omega arith, λ h. absurd (is-character·.ensures.1 (not_true is-character·.result if1·.true) h)))
+    (goes_none the-args.common (now the-args.bytes) the-args.from the-args.at the-args.count the-args.hand.moved the-args.hand.text _, (omega arith, omega arith, λ h. absurd (is-character·.ensures.1 (not-true is-character·.result if1·.true) h)))
 
 mul-place : tie.Need-overflow-mul-place
 mul-place c = search rules

@@ -1,4 +1,4 @@
-use Rattle.definitions.specs.Prelude.{refl, eq-eqb, ne_eqb, lt-ltb, le-ltb, not_true, not-false, needs}
+use Rattle.definitions.specs.Prelude.{refl, eq-eqb, ne_eqb, lt-ltb, le-ltb, not-true, not-false, needs}
 use Rattle.rules.specs.Store.{store_byte}
 use Rattle.definitions.proofs.StoringLaws.{in_stored}
 use Rattle.definitions.proofs.appending.store_byte.Statement.{statement}
@@ -32,7 +32,7 @@ returns-2 c =
     let if1· = c.before.before.before.before.if1 in
     let count-of· = c.before.before.count_of in
     let good-count· = c.before.good-count in
-    simp (ne_eqb _ _ if1·.false, ← count-of·.ensures, ← good-count·.ensures, not_true good-count·.result c.if2.true) (refl, (refl, refl))
+    simp (ne_eqb _ _ if1·.false, ← count-of·.ensures, ← good-count·.ensures, not-true good-count·.result c.if2.true) (refl, (refl, refl))
 
 set-body-byte-requires : tie.Need-set-body-byte-requires
 set-body-byte-requires c κs = search needs

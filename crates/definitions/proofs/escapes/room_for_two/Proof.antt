@@ -1,4 +1,4 @@
-use Rattle.definitions.specs.Prelude.{eq-eqb, ne_eqb, lt-ltb, le-ltb, not_true, not-false, needs}
+use Rattle.definitions.specs.Prelude.{eq-eqb, ne_eqb, lt-ltb, le-ltb, not-true, not-false, needs}
 use Rattle.definitions.specs.Room.{room_for_two}
 use Rattle.definitions.proofs.escapes.room_for_two.Statement.{statement}
 use Rattle.definitions.proofs.escapes.room_for_two.Tie as tie
@@ -24,7 +24,7 @@ returns-2 c =
     let if1· = c.before.before.before.if1 in
     let count-of· = c.before.before.count_of in
     let good-count· = c.before.good-count in
-    simp (ne_eqb _ _ if1·.false, ← count-of·.ensures, ← good-count·.ensures, not_true good-count·.result c.if2.true)
+    simp (ne_eqb _ _ if1·.false, ← count-of·.ensures, ← good-count·.ensures, not-true good-count·.result c.if2.true)
 
 sub-if3 : tie.Need-overflow-sub-if3
 sub-if3 c = search needs

@@ -6,7 +6,7 @@ use Rattle.operands.proofs.whole.byte_at.Tie as tie
 shared-slice-read-result : tie.Need-shared-slice-read-result
 shared-slice-read-result c = search needs
 
-cast-result : tie.Need-overflow-cast-result
+cast-result : tie.Need-overflow_cast-result
 cast-result c = Fits-under _ _ 256 (c.shared-slice-known.given c.before.args.i).fits tt
 
 returns : tie.Need-returns

@@ -16,7 +16,7 @@ loop-holds : tie.Need-loop-init invariant-loop decreases-loop
 unfolding point from_top bits_of all_data
 loop-holds c = (search needs, refl, refl)
 
-add-byte : tie.Need-overflow-add-byte invariant-loop decreases-loop
+add-byte : tie.Need-overflow_add-byte invariant-loop decreases-loop
 add-byte c = search needs
 
 shared-slice-read-byte : tie.Need-shared-slice-read-byte invariant-loop decreases-loop
@@ -34,7 +34,7 @@ cast-gather-byte c = search needs
 gather-byte-requires : tie.Need-gather-byte-requires invariant-loop decreases-loop
 gather-byte-requires c κs = search needs
 
-add-i : tie.Need-overflow-add-i invariant-loop decreases-loop
+add-i : tie.Need-overflow_add-i invariant-loop decreases-loop
 add-i c = search needs
 
 loop-less : tie.Need-loop-smaller invariant-loop decreases-loop

@@ -1,4 +1,4 @@
-use Rattle.pens.specs.Prelude.{not_true, not-false}
+use Rattle.pens.specs.Prelude.{not-true, not-false}
 use Rattle.pens.proofs.TipLaws.{not_behind, behind_together, behind_cursor, behind_point, behind_independent}
 use borrow.Author.Rules.{rules}
 use Rattle.pens.proofs.tips.catch_up.Statement.{statement}
@@ -7,7 +7,7 @@ use Rattle.pens.proofs.tips.catch_up.Tie as tie
 returns : tie.Need-returns
 returns c =
     let the-args = c.before.args in
-    not_behind the-args.point _ (not_true the-args.behind c.if1.true)
+    not_behind the-args.point _ (not-true the-args.behind c.if1.true)
 
 text-of-requires : tie.Need-text-of-requires
 text-of-requires c κs = search rules

@@ -1,4 +1,4 @@
-use Rattle.store.specs.Prelude.{◌∙◌, sym, arith, lt-ltb, le-ltb, le-leb, lt-leb, not_true, not-false, needs}
+use Rattle.store.specs.Prelude.{◌∙◌, sym, arith, lt-ltb, le-ltb, le-leb, lt-leb, not-true, not-false, needs}
 use Rattle.rules.specs.Bodies.{read_body}
 use Rattle.store.proofs.CellLaws.{good_most}
 use Rattle.store.proofs.cursors.read_body.Statement.{statement}
@@ -15,7 +15,7 @@ unfolding read_body
 returns c =
     let count-of· = c.before.before.count_of in
     let good-count· = c.before.good-count in
-    simp (← count-of·.ensures, ← good-count·.ensures, not_true good-count·.result c.if1.true)
+    simp (← count-of·.ensures, ← good-count·.ensures, not-true good-count·.result c.if1.true)
 
 returns-2 : tie.Need-returns-2
 unfolding read_body
@@ -61,7 +61,7 @@ returns-4 c =
     let next-of· = c.before.before.before.next_of in
     let count-of2· = c.before.before.count-of2 in
     let good-count2· = c.before.good-count2 in
-    simp (← count-of·.ensures, ← good-count·.ensures, not-false good-count·.result if1·.false, le-leb _ _ if2·.false, le-ltb _ _ if3·.false, ← next-of·.ensures, ← count-of2·.ensures, ← good-count2·.ensures, not_true good-count2·.result c.if4.true)
+    simp (← count-of·.ensures, ← good-count·.ensures, not-false good-count·.result if1·.false, le-leb _ _ if2·.false, le-ltb _ _ if3·.false, ← next-of·.ensures, ← count-of2·.ensures, ← good-count2·.ensures, not-true good-count2·.result c.if4.true)
 
 read-cell-requires-2 : tie.Need-read-cell-requires-2
 read-cell-requires-2 c κs = search needs
