@@ -1,5 +1,5 @@
 -- One feed call more after a list of them, and what the list then comes to
-use Rattle.demands.specs.Prelude.{ℕ, zero, suc, ◌+◌, ◌-◌, ◌≤◌, ◌<◌, min, add-zero, zero-min, min-zero, suc-min-suc, add-one, arith, ◌≡◌, refl, sym, ap, ap₂, ◌∙◌, subst, List, [], ◌∷◌, ◌++◌, append_assoc, length, get_or, take, drop, length-append, length-drop, length-take, take-append-drop, drop_of_length-le, take-append_seam, drop-append_seam, drop-append-le, drop-append-add, drop-drop, drop-cons, get_d_drop, take-add, length-take-le}
+use Rattle.demands.specs.Prelude.{ℕ, zero, suc, ◌+◌, ◌-◌, ◌≤◌, ◌<◌, min, add-zero, zero-min, min-zero, suc-min-suc, add-one, arith, ◌≡◌, refl, sym, ap, ap₂, ◌∙◌, subst, List, [], ◌∷◌, ◌++◌, append_assoc, length, get_or, take, drop, length-append, length-drop, length-take, take-append-drop, drop_of_length-le, take-append_seam, drop-append_seam, drop-append-le, drop-append-add, drop-drop, drop-cons, get_or-drop, take-add, length-take-le}
 use Rattle.rules.specs.declared.Answer.TheVariants.{Done, Full}
 use Rattle.rules.specs.Step.{State, remove_spent, NothingLeft, seek, Some, state_lent}
 use Rattle.rules.specs.Reading.{Reading, Room, Steps, rests, read_to, undivided}
@@ -293,7 +293,7 @@ fed_next h page lent ns rooms i k =
     let next = min (lent + get_or ns i 0) (length page) in
     ap (λ (l : List ℕ). fed_all h page lent l (drop i rooms)) (drop-cons ns i 0 k ∙ ap (λ (j : ℕ). get_or ns i 0 ∷ drop j ns) (sym (add-one i)))
     ∙ ap₂ (λ (m : ℕ) (l : List ℕ). fed_all (fed_more h page next (min (h.written + m) (length h.output))) page next (drop (i + 1) ns) l)
-    (get_d_drop i rooms 0 0 ∙ ap (λ (j : ℕ). get_or rooms j 0) (add-zero i)) (drop-drop 1 i rooms)
+    (get_or-drop i rooms 0 0 ∙ ap (λ (j : ℕ). get_or rooms j 0) (add-zero i)) (drop-drop 1 i rooms)
 
 fed_first : (w : State) (page lengths rooms out : List ℕ)
     → fed_all

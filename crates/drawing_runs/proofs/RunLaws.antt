@@ -1,5 +1,5 @@
 -- Runs over operands that come whole.
-use Rattle.drawing_runs.specs.Prelude.{ℕ, zero, suc, ◌+◌, ◌≤◌, ◌<◌, add_assoc, add-suc, add-zero, arith, ◌≡◌, refl, sym, ap, ◌∙◌, subst, Bool, true, false, List, [], ◌∷◌, ◌++◌, append-nil, length, get_or, set, take, drop, length-set, length-drop, take-suc, take-suc-set, get_d_drop, get_or-take, length-take-le, lt-ltb, le-ltb, ne_eqb}
+use Rattle.drawing_runs.specs.Prelude.{ℕ, zero, suc, ◌+◌, ◌≤◌, ◌<◌, add_assoc, add-suc, add-zero, arith, ◌≡◌, refl, sym, ap, ◌∙◌, subst, Bool, true, false, List, [], ◌∷◌, ◌++◌, append-nil, length, get_or, set, take, drop, length-set, length-drop, take-suc, take-suc-set, get_or-drop, get_or-take, length-take-le, lt-ltb, le-ltb, ne_eqb}
 use Rattle.rules.specs.declared.Action.TheVariants.{Data}
 use Rattle.rules.specs.declared.Drawing.{Drawing}
 use Rattle.rules.specs.declared.Operand.{Operand}
@@ -44,7 +44,7 @@ module _ (bytes : List ℕ) (place : ℕ) where
       let b = get_or bytes (place + k) 0 in
       take-suc-set (joined old k) k b (omega (arith, joined_length old k))
       ∙ ap (λ (xs : List ℕ). xs ++ (b ∷ [])) (joined_bytes old k (omega arith) (omega arith))
-      ∙ ap (λ (c : ℕ). take k l ++ (c ∷ [])) (sym (get_d_drop place bytes k 0))
+      ∙ ap (λ (c : ℕ). take k l ++ (c ∷ [])) (sym (get_or-drop place bytes k 0))
       ∙ sym (take-suc l k 0 (omega (arith, length-drop place bytes)))
 
 -- What is told of bytes that are all data
@@ -53,7 +53,7 @@ pub each_data : (bytes : List ℕ) (place l : ℕ) → place + l ≤ length byte
 each_data bytes place l h all k g =
     let bs = take l (drop place bytes) in
     let long : length bs ≡ l = length-take-le l (drop place bytes) (omega (arith, length-drop place bytes)) in
-    let here : get_or bs k 0 ≡ get_or bytes (place + k) 0 = get_or-take l (drop place bytes) k 0 g ∙ get_d_drop place bytes k 0 in
+    let here : get_or bs k 0 ≡ get_or bytes (place + k) 0 = get_or-take l (drop place bytes) k 0 g ∙ get_or-drop place bytes k 0 in
     rw here at (data_range (get_or bs k 0) (all_at bs k (omega arith) all))
 
 -- An operand of the bytes after a run's first n

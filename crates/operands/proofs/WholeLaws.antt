@@ -1,5 +1,5 @@
 -- Operands whose bytes have all come
-use Rattle.operands.specs.Prelude.{◌≡◌, refl, sym, ap, ◌∙◌, Bool, true, false, not, ◌&&◌, List, [], ◌∷◌, ◌++◌, ℕ, zero, suc, ◌+◌, ◌*◌, ◌/◌, ◌%◌, ◌≤◌, ◌<◌, le_of_suc-le-suc, not-suc-le-zero, add-one, arith, leb, eqb, length, get_or, take, drop, length-drop, take-suc, drop-cons, get_d_drop, length-take-le, get_or-take, leb-true, leb-false, eq-eqb, ne_eqb, eqb-true, not-true}
+use Rattle.operands.specs.Prelude.{◌≡◌, refl, sym, ap, ◌∙◌, Bool, true, false, not, ◌&&◌, List, [], ◌∷◌, ◌++◌, ℕ, zero, suc, ◌+◌, ◌*◌, ◌/◌, ◌%◌, ◌≤◌, ◌<◌, le_of_suc-le-suc, not-suc-le-zero, add-one, arith, leb, eqb, length, get_or, take, drop, length-drop, take-suc, drop-cons, get_or-drop, length-take-le, get_or-take, leb-true, leb-false, eq-eqb, ne_eqb, eqb-true, not-true}
 use Rattle.rules.specs.declared.Point.{Point}
 use Rattle.rules.specs.Operands.{bits_of, from_top, point, is_data, all_data}
 use Rattle.rules.proofs.Bools.{true_false, and_left, and_right, and_both, by_test, pick_yes, pick_no}
@@ -164,7 +164,7 @@ module _ (bs : List ℕ) (at : ℕ) (h : at + 3 ≤ length bs) (fits : (i : ℕ)
 -- The i-th of n bytes at a place
 module _ (bs : List ℕ) (at n i b : ℕ) (h : at + n ≤ length bs) (k : i < n) (e : b ≡ get_or bs (at + i) 0) where
   here : get_or (drop at bs) i 0 ≡ b
-  here = get_d_drop at bs i 0 ∙ sym e
+  here = get_or-drop at bs i 0 ∙ sym e
 
   within : i < length (drop at bs)
   within = omega (arith, length-drop at bs)

@@ -1,5 +1,5 @@
 -- TEXT's operands in a run.
-use Rattle.setting_runs.specs.Prelude.{ℕ, zero, suc, ◌+◌, ◌/◌, ◌≤◌, ◌<◌, add-zero, arith, ◌≡◌, refl, sym, ap, ◌∙◌, subst, false, List, [], length, get_or, take, drop, get_d_drop, get_or-take}
+use Rattle.setting_runs.specs.Prelude.{ℕ, zero, suc, ◌+◌, ◌/◌, ◌≤◌, ◌<◌, add-zero, arith, ◌≡◌, refl, sym, ap, ◌∙◌, subst, false, List, [], length, get_or, take, drop, get_or-drop, get_or-take}
 use Rattle.rules.specs.declared.Command.{Command}
 use Rattle.rules.specs.declared.Due.TheVariants.{First, Second, Third}
 use Rattle.rules.specs.declared.Drawing.{Drawing}
@@ -65,7 +65,7 @@ module _ (bytes : List ℕ) (from : ℕ) (c : Command) (l : Look) (t u : Text) (
 -- TEXT's bytes, and its size
 module _ (bytes : List ℕ) (from : ℕ) (c : Command) (l : Look) (t : Text) where
   first_byte : from + 1 ≤ length bytes → get_or (take 1 (drop from bytes)) 0 0 ≡ get_or bytes from 0
-  first_byte h = get_or-take 1 (drop from bytes) 0 0 (omega arith) ∙ get_d_drop from bytes 0 0 ∙ ap (λ (i : ℕ). get_or bytes i 0) (add-zero from)
+  first_byte h = get_or-take 1 (drop from bytes) 0 0 (omega arith) ∙ get_or-drop from bytes 0 0 ∙ ap (λ (i : ℕ). get_or bytes i 0) (add-zero from)
 
   one_data : get_or bytes from 0 / 64 ≡ 1 → (i : ℕ) → i < 1 → (64 ≤ get_or bytes (from + i) 0) × (get_or bytes (from + i) 0 ≤ 127)
   one_data e i h =

@@ -9,10 +9,10 @@ use Rattle.rules.specs.Coding.{controls, class_of}
 use Rattle.rules.proofs.Bools.{true_false, false_true, by_test, pick_yes, pick_no, pick_all}
 
 module _ {A : Type 0} where
-  get_d_drop : (m : ℕ) (xs : List A) (i : ℕ) (d : A) → get_or (drop m xs) i d ≡ get_or xs (m + i) d
-  get_d_drop zero xs i d = ap (λ (k : ℕ). get_or xs k d) (sym (zero-add i))
-  get_d_drop (suc m) [] i d = refl
-  get_d_drop (suc m) (x ∷ xs) i d = get_d_drop m xs i d ∙ ap (λ (k : ℕ). get_or (x ∷ xs) k d) (sym (suc-add m i))
+  get_or-drop : (m : ℕ) (xs : List A) (i : ℕ) (d : A) → get_or (drop m xs) i d ≡ get_or xs (m + i) d
+  get_or-drop zero xs i d = ap (λ (k : ℕ). get_or xs k d) (sym (zero-add i))
+  get_or-drop (suc m) [] i d = refl
+  get_or-drop (suc m) (x ∷ xs) i d = get_or-drop m xs i d ∙ ap (λ (k : ℕ). get_or (x ∷ xs) k d) (sym (suc-add m i))
 
   -- From m on, n entries are x
   stretch : (x d : A) (xs : List A) (m n k : ℕ) → take n (drop m xs) ≡ replicate n x → m ≤ k → k < m + n → get_or xs k d ≡ x
@@ -21,7 +21,7 @@ module _ {A : Type 0} where
       let back : k ≡ m + i = omega arith in
       let h : i < n = omega arith in
       ap (λ (j : ℕ). get_or xs j d) back
-      ∙ sym (get_d_drop m xs i d)
+      ∙ sym (get_or-drop m xs i d)
       ∙ sym (get_or-take n (drop m xs) i d h)
       ∙ ap (λ (l : List A). get_or l i d) e
       ∙ get_or-replicate n i x d h

@@ -1,5 +1,5 @@
 -- A turn by its parts: whether something is left, the byte that is next, and each way in which the turn comes out
-use Rattle.turns.proofs.Prelude.{ℕ, zero, suc, ◌+◌, ◌-◌, ◌≤◌, ◌<◌, add-zero, add-one, sub-one, arith, ◌≡◌, refl, sym, ap, ◌∙◌, Bool, true, false, List, [], ◌∷◌, length, drop, get_or, drop_of_length-le, drop-cons, get_d_drop, ltb, leb, lt-ltb, le-ltb, leb-true, leb-false}
+use Rattle.turns.proofs.Prelude.{ℕ, zero, suc, ◌+◌, ◌-◌, ◌≤◌, ◌<◌, add-zero, add-one, sub-one, arith, ◌≡◌, refl, sym, ap, ◌∙◌, Bool, true, false, List, [], ◌∷◌, length, drop, get_or, drop_of_length-le, drop-cons, get_or-drop, ltb, leb, lt-ltb, le-ltb, leb-true, leb-false}
 use Rattle.rules.specs.declared.Answer.TheVariants.{Done, Full, Refused}
 use Rattle.rules.specs.declared.Bodies.{Bodies}
 use Rattle.rules.specs.declared.Cursor.{Cursor}
@@ -39,7 +39,7 @@ some_of_piece d at l q h = leb-false (length l) at (left_of_piece d at l h ∙ q
 -- The next byte, and the place of the piece after it
 
 pub next_of_piece : (d at : ℕ) (st : List ℕ) (y : Bodies) (l : List ℕ) → d ≡ 0 → Byte (get_or l at 0) (record { cell = 0; place = 0 }) ≡ next_byte d st y (drop at l)
-next_of_piece d at st y l h = rw (h, get_d_drop at l 0 0, add-zero at)
+next_of_piece d at st y l h = rw (h, get_or-drop at l 0 0, add-zero at)
 
 pub next_of_body : (d : ℕ) (st : List ℕ) (y : Bodies) (bs : List ℕ) → (d ≡ 0 → ⊥) → read_body st (body_at y (d - 1)) ≡ next_byte d st y bs
 next_of_body zero st y bs h = absurd (h refl)
