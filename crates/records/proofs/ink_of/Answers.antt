@@ -5,12 +5,12 @@ use Rattle.records.proofs.ink_of.Goals as goal
 
 pub returns-in-Direct : goal.returns-in-Direct
 unfolding colour0 colour1 colour2
-returns-in-Direct c = inked c.args.c Direct c.mode_number-number.ensures c.enum_told-1.is
+returns-in-Direct c = inked c.args.c Direct c.mode_number-number.ensures c.in-Direct.is
 
 pub returns-in-Mapped : goal.returns-in-Mapped
 unfolding colour0 colour1 colour2
-returns-in-Mapped c = inked c.args.c Mapped c.mode_number-number.ensures c.enum_told-in-Mapped-1.is
+returns-in-Mapped c = inked c.args.c Mapped c.mode_number-number.ensures c.in-Mapped.is
 
 pub returns-in-TwoColour : goal.returns-in-TwoColour
 unfolding colour0 colour1 colour2
-returns-in-TwoColour c = inked c.args.c TwoColour c.mode_number-number.ensures c.enum_told-in-TwoColour-1.is
+returns-in-TwoColour c = inked c.args.c TwoColour c.mode_number-number.ensures c.in-TwoColour.is

@@ -28,23 +28,11 @@ pub loop-n-preserved : goal.loop-n-preserved
 loop-n-preserved c =
     (laid_on _ _ _ _ _ _ _ _ refl c.loop-n.invariant.0 (c.if-byte-gt127.false, c.if-byte-eq-ESC.false), omega arith, simp length-set (omega arith))
 
-pub shape_of-store-after-loop-n : goal.shape_of-store-after-loop-n
-shape_of-store-after-loop-n c = omega arith
-
 pub returns-after-loop-n : goal.returns-after-loop-n
-returns-after-loop-n c =
-    (c.loop-n.invariant.0, omega arith)
-
-pub shape_of-store-then-byte-gt127 : goal.shape_of-store-then-byte-gt127
-shape_of-store-then-byte-gt127 c = omega arith
+returns-after-loop-n c = record { laid = c.loop-n.invariant.0; most = omega arith }
 
 pub returns-then-byte-gt127 : goal.returns-then-byte-gt127
-returns-then-byte-gt127 c =
-    (c.loop-n.invariant.0, omega arith)
-
-pub shape_of-store-then-byte-eq-ESC : goal.shape_of-store-then-byte-eq-ESC
-shape_of-store-then-byte-eq-ESC c = omega arith
+returns-then-byte-gt127 c = record { laid = c.loop-n.invariant.0; most = omega arith }
 
 pub returns-then-byte-eq-ESC : goal.returns-then-byte-eq-ESC
-returns-then-byte-eq-ESC c =
-    (c.loop-n.invariant.0, omega arith)
+returns-then-byte-eq-ESC c = record { laid = c.loop-n.invariant.0; most = omega arith }

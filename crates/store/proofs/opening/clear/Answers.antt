@@ -21,9 +21,6 @@ loop-i-preserved c = (
   simp length-set (omega arith),
 )
 
-pub shape_of-store : goal.shape_of-store
-shape_of-store c = omega arith
-
 pub returns : goal.returns
 returns c =
     c.loop-i.invariant.0 ∙ fill_all _ c.loop-i.i 0 (omega arith)

@@ -21,9 +21,6 @@ pub loop-cell-preserved : goal.loop-cell-preserved
 loop-cell-preserved c =
     let k = c.loop-cell.cell in record { linked = c.set_next.ensures ∙ ap (λ (s : List ℕ). set_next s k (k + 1)) c.loop-cell.invariant.linked ∙ linked_more k (omega arith); most = omega arith; size = ap length c.set_next.ensures ∙ length-set_next _ k (k + 1) ∙ omega arith; lent = omega arith }
 
-pub shape_of-store : goal.shape_of-store
-shape_of-store c = omega arith
-
 pub returns : goal.returns
 returns c =
     let e : c.loop-cell.cell ≡ 255 = omega arith in

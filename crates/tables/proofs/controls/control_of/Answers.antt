@@ -4,7 +4,7 @@ use Rattle.tables.proofs.controls.control_of.Goals as goal
 
 pub returns-in-Below : goal.returns-in-Below
 returns-in-Below c =
-    let below = below_control c.args.b _ (sym c.class-1.is ∙ c.class_of-class.ensures) in
+    let below = below_control c.args.b _ (sym c.in-Below.is ∙ c.class_of-class.ensures) in
     λ f e. (below.0, below.1 ∙ e)
 
 pub returns-in-Column2 : goal.returns-in-Column2

@@ -5,16 +5,16 @@ use Rattle.text.proofs.cursor.following.Goals as goal
 
 pub returns-in-Together : goal.returns-in-Together
 returns-in-Together c =
-    c.cursor_led.ensures ∙ following_together _ _ _ c.enum_told-1.is
+    c.cursor_led.ensures ∙ following_together _ _ _ c.in-Together.is
 
 pub returns-in-CursorLeads : goal.returns-in-CursorLeads
 unfolding following
-returns-in-CursorLeads c = rw c.enum_told-in-CursorLeads-1.is
+returns-in-CursorLeads c = rw c.in-CursorLeads.is
 
 pub returns-in-PointLeads : goal.returns-in-PointLeads
 returns-in-PointLeads c =
-    c.cursor_led-in-PointLeads.ensures ∙ following_point _ _ _ c.enum_told-in-PointLeads-1.is
+    c.cursor_led-in-PointLeads.ensures ∙ following_point _ _ _ c.in-PointLeads.is
 
 pub returns-in-Independent : goal.returns-in-Independent
 unfolding following
-returns-in-Independent c = rw c.enum_told-in-Independent-1.is
+returns-in-Independent c = rw c.in-Independent.is
