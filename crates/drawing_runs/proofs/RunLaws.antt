@@ -116,10 +116,10 @@ module _ (bytes : List ℕ) (from n : ℕ) (x : Carried) (d : Drawing) (at : ℕ
       step (suc k) long each k (omega arith) (join (suc k) long each z run k (omega arith)) p
 
 -- A run after a run
-pub run_then : {s : Set} {bytes : List ℕ} {from j k : ℕ} {x y z : Carried} → Run s bytes from x j y → Run s bytes (from + j) y k z → Run s bytes from x (j + k) z
-run_then {s} {bytes} {from} {j} {k} {x} {y} r none = subst (λ (i : ℕ). Run s bytes from x i y) (sym (add-zero j)) r
-run_then {s} {bytes} {from} {j} {k} {x} r (more {n} {y} {a} {e} {rs} q acts room drew) =
-    subst (λ (i : ℕ). Run s bytes from x i (carry (Draw e rs) y.drawing y.at y.output)) (sym (add-suc j n))
+pub run_then : {s : Set} {bytes : List ℕ} {from j : ℕ} {x y : Carried} {k : ℕ} {z : Carried} → Run s bytes from x j y → Run s bytes (from + j) y k z → Run s bytes from x (j + k) z
+run_then {s} {bytes} {from} {j} {x} {y} {k} r none = subst (λ (i : ℕ). Run s bytes from x i y) (sym (add-zero j)) r
+run_then {s} {bytes} {from} {j} {x} {y} {k} r (more {n} {y = w} {a} {e} {rs} q acts room drew) =
+    subst (λ (i : ℕ). Run s bytes from x i (carry (Draw e rs) w.drawing w.at w.output)) (sym (add-suc j n))
     (more (run_then r q) (subst (λ (i : ℕ). ActsAs s (get_or bytes i 0) a) (add_assoc from j n) acts) room drew)
 
 -- An operand that is cut has no point

@@ -1,5 +1,4 @@
 use Rattle.reactions.proofs.SetLaws.{others_leave}
-use borrow.Enum.Refused.{opened}
 use Rattle.reactions.proofs.sets_after.Goals as goal
 
 pub returns-in-Acts : goal.returns-in-Acts
@@ -16,4 +15,4 @@ returns-in-Designates c =
 
 pub returns-in_default : goal.returns-in_default
 returns-in_default c =
-    others_leave c.args.effect _ (opened c.in_default.in_default-own.keys4)
+    others_leave c.args.effect _ c.in_default.in_default-own.keys4
