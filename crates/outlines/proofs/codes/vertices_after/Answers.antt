@@ -1,0 +1,14 @@
+use Rattle.outlines.specs.Prelude.{arith}
+use Rattle.outlines.proofs.codes.vertices_after.Goals as goal
+
+pub returns-in-Line : goal.returns-in-Line
+returns-in-Line c =
+    rw c.in-Line.is
+
+pub overflow_add-result : goal.overflow_add-result
+overflow_add-result c =
+    omega (arith, c.requires c.in-Polygon.is)
+
+pub returns-in-Polygon : goal.returns-in-Polygon
+returns-in-Polygon c =
+    rw c.in-Polygon.is (omega arith)
