@@ -31,10 +31,6 @@ pub enum Role {
     Foreground,
     Background,
     Colour,
-    /// dx and dy of an incremental outline, then its codes.
-    Step,
-    LineCodes,
-    PolygonCodes,
 }
 
 /// Operands that a pattern is written with, at most.
@@ -167,8 +163,8 @@ pub static ROWS: [Row; 32] = {
         filled(once(&[Start, Edge])),
         OTHER,
         OTHER,
-        once(&[Step, LineCodes]),
-        filled(once(&[Step, PolygonCodes])),
+        OTHER,
+        OTHER,
         once(&[Colour, Ignore]),
         OTHER,
         once(&[Foreground, Background, Ignore]),

@@ -3,9 +3,8 @@
 use crate::coding::Set;
 use crate::colour::Colours;
 use crate::command::{Place, Role, TEXT};
-use crate::increment::{Increments, MOVES};
 use crate::operand::{colour_bits, is_data, Layout};
-use crate::record::{fields, fill, header, Kind, Output, Point, CLOSING, STEP_RECORDS, WRAPPED};
+use crate::record::{fields, fill, header, Kind, Output, Point, CLOSING, WRAPPED};
 use crate::text::{Effector, Ink, Positioning, Text};
 use crate::Number;
 
@@ -41,16 +40,13 @@ pub struct Drawing {
     /// Bytes of the begun operand and their bits.
     begun: u8,
     operand: u64,
-    /// Start of the open arc, polygon or incremental outline.
+    /// Start of the open arc or polygon.
     start: Point,
     /// Middle of the open arc, and whether its sum left the range.
     middle: Point,
     wrapped: bool,
-    /// Vertices of the open polygon; zero before the first displacement, or the
-    /// step of an incremental one.
+    /// Vertices of the open polygon; zero before the first displacement.
     vertices: u16,
-    /// What the codes of the open incremental outline mean.
-    increments: Increments,
 }
 
 impl Drawing {
@@ -72,7 +68,6 @@ impl Drawing {
             middle: Point::default(),
             wrapped: false,
             vertices: 0,
-            increments: Increments::new(Point::default()),
         }
     }
 
@@ -132,8 +127,7 @@ impl Drawing {
         }
         match self.role {
             Role::ArcEnd => self.finish_arc(self.start, self.wrapped, output),
-            // A polygon with more than its start.
-            Role::Edge | Role::PolygonCodes if self.vertices > 1 => {
+            Role::Edge if self.vertices > 0 => {
                 let flags = CLOSING | self.filled();
                 self.write(Kind::Edge, flags, [self.point, self.start], output);
                 self.move_to(self.start);
@@ -168,8 +162,6 @@ impl Drawing {
                 *input = &input[1..];
                 Ok(())
             }
-            Role::LineCodes => self.codes::<false>(input, output),
-            Role::PolygonCodes => self.codes::<true>(input, output),
             _ => self.points(input, output),
         }
     }
@@ -182,7 +174,7 @@ impl Drawing {
             }
             // What is left: an operand that does not lie in one piece.
             loop {
-                if !output.has_room() || !self.takes_points() {
+                if !output.has_room() || self.role == Role::Ignore {
                     return Ok(());
                 }
                 match input.split_first() {
@@ -275,21 +267,12 @@ impl Drawing {
             let Some(operand) = layout.gather(bytes) else {
                 return;
             };
-            if !output.has_room() || !self.takes_points() || self.at_vertex_limit() {
+            if !output.has_room() || self.role == Role::Ignore || self.at_vertex_limit() {
                 return;
             }
             self.apply_point(Point::unpack(operand), output);
             *input = rest;
         }
-    }
-
-    /// Whether point operands go on: some patterns end with other data.
-    #[inline]
-    fn takes_points(&self) -> bool {
-        !matches!(
-            self.role,
-            Role::Ignore | Role::LineCodes | Role::PolygonCodes
-        )
     }
 
     /// Whether the pattern is this one role.
@@ -402,11 +385,9 @@ impl Drawing {
             Role::Edge => self.edge(operand, output),
             Role::Pel => self.pel = operand,
             Role::Field => self.text.set_field(operand),
-            Role::Step => self.begin_increments(operand),
             // No points; data and complete keep them apart.
             Role::Ignore | Role::Lengths | Role::TextFirst | Role::TextSecond => {}
             Role::Foreground | Role::Background | Role::Colour => {}
-            Role::LineCodes | Role::PolygonCodes => {}
         }
         self.advance();
     }
@@ -494,57 +475,6 @@ impl Drawing {
         );
     }
 
-    // Incremental outlines.
-
-    fn begin_increments(&mut self, step: Point) {
-        self.increments = Increments::new(step);
-        self.start = self.point;
-        self.vertices = 1;
-    }
-
-    /// Reads the codes of an incremental outline, a byte a step while they go
-    /// on and there is room.
-    #[inline(never)]
-    fn codes<const POLYGON: bool>(
-        &mut self,
-        input: &mut &[u8],
-        output: &mut Output,
-    ) -> Result<(), Number> {
-        let kind = if POLYGON { Kind::Edge } else { Kind::Line };
-        let drawn = header(kind, self.filled(), self.colours.paint());
-        let (pel, mut increments) = (self.pel, self.increments);
-        let (mut point, mut moved, mut vertices) = (self.point, self.moved, self.vertices);
-        let mut outcome = Ok(());
-        let mut slots = output.free_slots().iter_mut();
-        let free = slots.len();
-        while let Some((&byte, rest)) = input.split_first() {
-            if slots.len() < STEP_RECORDS || !is_data(byte) {
-                break;
-            }
-            if POLYGON && too_many_moves(vertices, increments, byte) {
-                outcome = Err(Number::TooManyVertices);
-                break;
-            }
-            increments.read::<POLYGON>(byte, |by, draws| {
-                let (to, wrapped) = point.plus(by);
-                if draws {
-                    let slot = slots.next().expect("a byte has three moves at most");
-                    let header = drawn | u64::from(wrapped_flag(wrapped)) << 8;
-                    fill(slot, header, &fields([point, to, Point::default()], pel));
-                }
-                point = to;
-                moved = true;
-                vertices += u16::from(POLYGON);
-            });
-            *input = rest;
-        }
-        let written = free - slots.len();
-        output.advance(written);
-        self.increments = increments;
-        (self.point, self.moved, self.vertices) = (point, moved, vertices);
-        outcome
-    }
-
     // Text.
 
     /// The cursor follows the drawing point, if that was moved.
@@ -619,27 +549,6 @@ impl Drawing {
             self.align();
         }
     }
-}
-
-#[cfg(test)]
-impl Drawing {
-    /// The incremental outline whose codes come next: whether it is a polygon,
-    /// what they mean, and its vertices.
-    pub fn open_outline(&self) -> Option<(bool, Increments, u16)> {
-        let polygon = match self.role {
-            Role::LineCodes => false,
-            Role::PolygonCodes => true,
-            _ => return None,
-        };
-        Some((polygon, self.increments, self.vertices))
-    }
-}
-
-/// Whether the moves of a byte would reach vertex 413. The byte is then refused
-/// whole, so this is asked before its first code is read.
-#[inline]
-fn too_many_moves(vertices: u16, increments: Increments, byte: u8) -> bool {
-    vertices > MOST_VERTICES - MOVES && vertices + increments.moves_in(byte) > MOST_VERTICES
 }
 
 /// The map address in the first byte of a single-value operand.

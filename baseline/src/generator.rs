@@ -1,9 +1,9 @@
 //! Seeded pages that reach every rule of the reader, most of them accepted.
 //!
-//! A page is a list of items: commands, incremental outlines, text, characters,
-//! shifts, sequences, definitions, calls, CANs. The generator keeps a rough
-//! account of the sets in use so that most items mean what they are meant to;
-//! where the account is lost (after a call that shifts) it designates anew.
+//! A page is a list of items: commands, text, characters, shifts, sequences,
+//! definitions, calls, CANs. The generator keeps a rough account of the sets in
+//! use so that most items mean what they are meant to; where the account is
+//! lost (after a call that shifts) it designates anew.
 
 use crate::drawing::MOST_VERTICES;
 use crate::listing::GREATEST_BUDGET;
@@ -20,9 +20,6 @@ const MOSAIC: u8 = 0x7D;
 const MACRO: u8 = 0x7A;
 const DRCS: u8 = 0x7B;
 const FINALS: [u8; 6] = [PRIMARY, SUPPLEMENTARY, PDI, MOSAIC, MACRO, DRCS];
-
-const INCREMENTAL_LINE: u8 = 0x3A;
-const INCREMENTAL_POLYGON: u8 = 0x3B;
 
 /// The controls that set the cursor.
 const APB: u8 = 0x08;
@@ -117,7 +114,6 @@ enum Theme {
     Coding,
     Store,
     Polygons,
-    Outlines,
     Text,
     Noise,
 }
@@ -129,9 +125,6 @@ enum Item {
     Interrupted,
     Polygon,
     LongPolygon,
-    Outline,
-    LongOutline,
-    OutlineByMacro,
     SelectColour,
     SetColour,
     CutColour,
@@ -178,8 +171,6 @@ const EVERYTHING: &[Item] = &[
     AnyOpcode,
     AnyOpcode,
     Polygon,
-    Outline,
-    Outline,
     SelectColour,
     SetColour,
     CutColour,
@@ -213,7 +204,6 @@ const EVERYTHING: &[Item] = &[
     Call,
     Call,
     OperandsByMacro,
-    OutlineByMacro,
     Noise,
 ];
 const DRAWING: &[Item] = &[
@@ -225,8 +215,6 @@ const DRAWING: &[Item] = &[
     Command,
     AnyOpcode,
     Polygon,
-    Outline,
-    Outline,
     SelectColour,
     SetColour,
     CutColour,
@@ -256,8 +244,6 @@ const MACROS: &[Item] = &[
     Command,
     Domain,
     OperandsByMacro,
-    OutlineByMacro,
-    OutlineByMacro,
     PendingAtEnd,
     PositionByMacro,
     Characters,
@@ -300,8 +286,6 @@ const POLYGONS: &[Item] = &[
     LongPolygon,
     Polygon,
     Polygon,
-    LongOutline,
-    Outline,
     Interrupted,
     Interrupted,
     Command,
@@ -310,32 +294,6 @@ const POLYGONS: &[Item] = &[
     SelectColour,
     OperandsByMacro,
     Characters,
-];
-const OUTLINES: &[Item] = &[
-    Outline,
-    Outline,
-    Outline,
-    Outline,
-    Outline,
-    Outline,
-    LongOutline,
-    OutlineByMacro,
-    OutlineByMacro,
-    Interrupted,
-    Command,
-    Polygon,
-    Domain,
-    Domain,
-    SetColour,
-    SelectColour,
-    StrayData,
-    Characters,
-    Text,
-    Effectors,
-    Position,
-    Control,
-    Cancel,
-    CloseSequence,
 ];
 const TEXT: &[Item] = &[
     Text,
@@ -437,7 +395,6 @@ impl Generator {
         let theme = self.theme();
         let most = match theme {
             Theme::Store | Theme::Polygons => 8,
-            Theme::Outlines => self.random.pick(&[3, 8, 20]),
             _ => self.random.pick(&[3, 10, 25, 60]),
         };
         let items = self.random.range(0, most);
@@ -461,8 +418,8 @@ impl Generator {
         use Theme::*;
         self.random.pick(&[
             Everything, Everything, Everything, Everything, Drawing, Drawing, Drawing, Macros,
-            Macros, Macros, Coding, Coding, Store, Polygons, Polygons, Polygons, Outlines,
-            Outlines, Outlines, Text, Text, Text, Text, Text, Noise,
+            Macros, Macros, Coding, Coding, Store, Polygons, Polygons, Text, Text, Text, Text,
+            Text, Noise,
         ])
     }
 
@@ -482,9 +439,6 @@ impl Generator {
             Interrupted => self.interrupted(),
             Polygon => self.polygon(),
             LongPolygon => self.long_polygon(),
-            Outline => self.outline(),
-            LongOutline => self.long_outline(),
-            OutlineByMacro => self.outline_by_macro(),
             SelectColour => self.select_colour(),
             SetColour => self.set_colour(),
             CutColour => self.cut_colour(),
@@ -658,10 +612,7 @@ impl Generator {
 
     /// A command with things between its data that close nothing.
     fn interrupted(&mut self) {
-        match self.random.chance(20) {
-            true => self.outline(),
-            false => self.any_opcode(),
-        }
+        self.any_opcode();
         for _ in 0..self.random.range(1, 4) {
             self.interruption();
             self.use_set(PDI);
@@ -817,162 +768,6 @@ impl Generator {
         }
         let count = self.random.range(1, 12);
         self.data(count);
-    }
-
-    // Incremental outlines.
-
-    /// An incremental line or polygon, under any lengths.
-    fn outline(&mut self) {
-        if self.random.chance(30) {
-            self.domain();
-        }
-        self.use_pdi();
-        self.any_outline();
-    }
-
-    fn any_outline(&mut self) {
-        let opcode = self.random.pick(&[INCREMENTAL_LINE, INCREMENTAL_POLYGON]);
-        self.put(opcode);
-        match self.random.below(12) {
-            // No step, or one that is cut.
-            0 | 1 => {
-                let count = self.random.below(self.multi);
-                self.data(count);
-            }
-            2 => {
-                self.step();
-                let count = self.random.below(20);
-                self.data(count);
-            }
-            _ => {
-                self.step();
-                let count = self.random.pick(&[0, 1, 2, 5, 5, 12, 30]);
-                let codes = self.runs(count);
-                self.increments(&codes);
-            }
-        }
-    }
-
-    fn step(&mut self) {
-        let (dx, dy) = (self.extent(), self.extent());
-        self.operand(dx, dy);
-    }
-
-    /// Codes: runs of moves, sign changes, draw flags and chains of 00.
-    fn runs(&mut self, count: usize) -> Vec<u8> {
-        let mut codes = Vec::new();
-        for _ in 0..count {
-            match self.random.below(8) {
-                0 | 1 => self.sign_change(&mut codes),
-                2 => codes.extend([0, 0]),
-                3 => codes.resize(codes.len() + self.random.range(1, 8), 0),
-                _ => {
-                    let moves = self.random.range(1, 6);
-                    codes.extend(self.moves(moves));
-                }
-            }
-        }
-        codes
-    }
-
-    /// A change of signs; in a polygon, all 00 before it but the first are nulls.
-    fn sign_change(&mut self, codes: &mut Vec<u8>) {
-        let zeros = self.random.pick(&[1, 1, 1, 1, 2, 3, 4]);
-        codes.resize(codes.len() + zeros, 0);
-        codes.push(self.random.byte(1, 3));
-    }
-
-    fn moves(&mut self, count: usize) -> Vec<u8> {
-        (0..count).map(|_| self.random.byte(1, 3)).collect()
-    }
-
-    /// Data bytes with three codes each; 00 fills the last.
-    fn increments(&mut self, codes: &[u8]) {
-        for three in codes.chunks(3) {
-            let byte = three.iter().fold(1, |byte, code| byte << 2 | code);
-            self.put(byte << (2 * (3 - three.len())));
-        }
-    }
-
-    /// An incremental polygon of about as many vertices as a byte counts, or of
-    /// about the most, seldom more.
-    fn long_outline(&mut self) {
-        let vertices = match self.random.below(8) {
-            0 | 1 => self.random.range(255, 258),
-            2..=6 => self.random.range(410, MOST_VERTICES.into()),
-            _ => usize::from(MOST_VERTICES) + 1,
-        };
-        self.use_set(PDI);
-        self.outline_of(vertices);
-    }
-
-    /// An incremental polygon of so many vertices. Its last move, which may be
-    /// refused, is any code of its byte, mostly with sign changes next to it.
-    fn outline_of(&mut self, vertices: usize) {
-        self.put(INCREMENTAL_POLYGON);
-        self.step();
-        let changes = self.random.pick(&[0, 10, 40]);
-        let mut codes = Vec::new();
-        for _ in 2..vertices {
-            if self.random.chance(changes) {
-                self.sign_change(&mut codes);
-            }
-            codes.push(self.random.byte(1, 3));
-        }
-        self.sign_changes(&mut codes);
-        codes.push(self.random.byte(1, 3));
-        self.sign_changes(&mut codes);
-        self.increments(&codes);
-    }
-
-    /// None to a few changes of signs.
-    fn sign_changes(&mut self, codes: &mut Vec<u8>) {
-        for _ in 0..self.random.pick(&[0, 1, 1, 2, 5]) {
-            self.sign_change(codes);
-        }
-    }
-
-    /// An incremental outline of which parts come from a body and from another
-    /// that is called by it.
-    fn outline_by_macro(&mut self) {
-        if self.writing.is_some() {
-            return;
-        }
-        if self.random.chance(30) {
-            self.domain();
-        }
-        self.use_beside_macros(PDI);
-        let outline = self.outline_apart();
-        let mut cuts = [0; 4].map(|_| self.random.range(0, outline.len()));
-        cuts.sort_unstable();
-        let [start, inner_start, inner_end, end] = cuts;
-        let names = self.ladder(2);
-        self.bytes.extend(&outline[..start]);
-        if let &[inner, outer] = names.as_slice() {
-            self.define_name(inner, |body| {
-                body.bytes.extend(&outline[inner_start..inner_end]);
-            });
-            self.define_name(outer, |body| {
-                body.bytes.extend(&outline[start..inner_start]);
-                body.call_by_g2(inner);
-                body.bytes.extend(&outline[inner_end..end]);
-            });
-            self.bytes.extend([SINGLE_SHIFTS[0], outer]);
-        }
-        self.bytes.extend(&outline[end..]);
-    }
-
-    /// The bytes of an outline, not yet part of the page.
-    fn outline_apart(&mut self) -> Vec<u8> {
-        let at = self.bytes.len();
-        match self.random.chance(15) {
-            true => {
-                let vertices = self.random.range(410, usize::from(MOST_VERTICES) + 1);
-                self.outline_of(vertices);
-            }
-            false => self.any_outline(),
-        }
-        self.bytes.split_off(at)
     }
 
     // Characters and controls.
@@ -1150,7 +945,7 @@ impl Generator {
         self.bytes.extend(&[first, second][..bytes]);
         if bytes == 2 && self.random.chance(75) {
             let (dx, dy) = (self.extent(), self.extent());
-            self.operand(dx, dy);
+            self.field(dx, dy);
             self.after_field();
         }
     }
@@ -1170,7 +965,7 @@ impl Generator {
         }
     }
 
-    /// One side of a character field or step, as a signed number of units.
+    /// One side of a character field, as a signed number of units.
     fn extent(&mut self) -> i32 {
         let extent = match self.random.below(12) {
             0 => 0,
@@ -1191,7 +986,7 @@ impl Generator {
     }
 
     /// A multi-value operand with these coordinates, as far as its bits go.
-    fn operand(&mut self, dx: i32, dy: i32) {
+    fn field(&mut self, dx: i32, dy: i32) {
         let bits = if self.three_dimensions { 2 } else { 3 };
         for place in 1..=self.multi as u32 {
             let part = |side: i32| (side as u32 >> (32 - bits * place)) as u8 & ((1 << bits) - 1);
@@ -1252,7 +1047,7 @@ impl Generator {
         let (width, height) = (self.random.range(1, least), self.random.range(1, least));
         self.use_set(PDI);
         self.bytes.extend([0x22, first, second]);
-        self.operand((SIDE >> width) as i32, (SIDE >> height) as i32);
+        self.field((SIDE >> width) as i32, (SIDE >> height) as i32);
         self.put(APR);
         // Whether the path is upright, and whether the field is turned.
         let along = match (first & 8 != 0) != (first & 1 != 0) {
@@ -1347,10 +1142,9 @@ impl Generator {
             self.text();
         }
         for _ in 0..self.random.range(1, 5) {
-            match self.random.below(5) {
+            match self.random.below(4) {
                 0 => self.polygon(),
                 1 => self.any_opcode(),
-                2 => self.outline(),
                 _ => self.command(),
             }
             match self.random.below(6) {
@@ -1561,7 +1355,6 @@ impl Generator {
             Command,
             Command,
             Polygon,
-            Outline,
             SelectColour,
             SetColour,
             CutColour,
@@ -1925,11 +1718,6 @@ impl Generator {
     }
 
     fn too_many_vertices(&mut self) {
-        if self.random.chance(50) {
-            self.use_set(PDI);
-            self.outline_of(usize::from(MOST_VERTICES) + 1);
-            return;
-        }
         let length = self.random.pick(&[1, 2, 3]);
         let cut = self.random.below(length);
         self.polygon_of(usize::from(MOST_VERTICES) + 1, length, cut);
@@ -1974,7 +1762,6 @@ fn items_of(theme: Theme) -> &'static [Item] {
         Theme::Coding => CODING,
         Theme::Store => STORE_ITEMS,
         Theme::Polygons => POLYGONS,
-        Theme::Outlines => OUTLINES,
         Theme::Text => TEXT,
         Theme::Noise => NOISE,
     }
@@ -1984,7 +1771,7 @@ fn items_of(theme: Theme) -> &'static [Item] {
 mod tests {
     use super::*;
     use crate::listing::listing;
-    use crate::session::tests::{codes_read, depths_of_cancels, CodesRead};
+    use crate::session::tests::depths_of_cancels;
 
     #[test]
     fn the_seed_and_number_decide_the_page() {
@@ -2046,52 +1833,6 @@ mod tests {
             }
         }
         assert!(pages.iter().all(|&found| found > 20), "{pages:?}");
-    }
-
-    /// Which code of a byte is the move too many, counted from 0.
-    fn refused_code(codes: &CodesRead) -> usize {
-        let mut changes = codes.changes;
-        let mut moves = usize::from(MOST_VERTICES - codes.vertices) + 1;
-        for (place, shift) in [4, 2, 0].into_iter().enumerate() {
-            let code = codes.byte >> shift & 3;
-            let is_move = !changes && code != 0;
-            changes = code == 0;
-            moves -= usize::from(is_move);
-            if moves == 0 {
-                return place;
-            }
-        }
-        panic!("{codes:?} is not refused");
-    }
-
-    #[test]
-    fn outlines_are_common() {
-        let read: Vec<Vec<CodesRead>> = (0..2000)
-            .map(|number| codes_read(&page(1, number)))
-            .collect();
-        let assert_common = |what: &str, least: usize, is: fn(&CodesRead) -> bool| {
-            let pages = read.iter().filter(|page| page.iter().any(is)).count();
-            assert!(pages > least, "{pages} pages with {what}");
-        };
-        assert_common("lines", 200, |codes| !codes.polygon);
-        assert_common("polygons", 200, |codes| codes.polygon);
-        assert_common("the pen up", 200, |codes| !codes.draws);
-        assert_common("codes in a body", 100, |codes| codes.in_body);
-        // A 00 that ends a byte.
-        assert_common("changes due in a line", 100, |codes| {
-            codes.changes && !codes.polygon
-        });
-        assert_common("changes due in a polygon", 100, |codes| {
-            codes.changes && codes.polygon
-        });
-        assert_common("the most vertices", 20, |codes| {
-            codes.vertices == MOST_VERTICES && !codes.refused
-        });
-        for place in 0..3 {
-            let is = |codes: &CodesRead| codes.refused && refused_code(codes) == place;
-            let pages = read.iter().filter(|page| page.iter().any(is)).count();
-            assert!(pages > 5, "{pages} pages refused at code {place}");
-        }
     }
 
     #[test]

@@ -28,12 +28,10 @@ pub enum BenchKind {
     Captions,
     /// Calls of bodies nested eight deep, all left by a CAN in the innermost.
     Cancels,
-    /// An incremental line and an incremental polygon, again and again.
-    Increments,
 }
 
 /// The kinds and their names.
-pub const KINDS: [(&str, BenchKind); 12] = [
+pub const KINDS: [(&str, BenchKind); 11] = [
     ("point-set", BenchKind::PointSet),
     ("line", BenchKind::Line),
     ("characters", BenchKind::Characters),
@@ -45,7 +43,6 @@ pub const KINDS: [(&str, BenchKind); 12] = [
     ("text", BenchKind::Text),
     ("captions", BenchKind::Captions),
     ("cancels", BenchKind::Cancels),
-    ("increments", BenchKind::Increments),
 ];
 
 const ESC: u8 = 0x1B;
@@ -56,15 +53,9 @@ const APR: u8 = 0x0D;
 const APH: u8 = 0x1E;
 const CAN: u8 = 0x18;
 const SINGLE_SHIFT: u8 = 0x19;
-const INCREMENTAL_LINE: u8 = 0x3A;
-const INCREMENTAL_POLYGON: u8 = 0x3B;
 const MACRO_TO_G0: [u8; 3] = [ESC, 0x28, 0x7A];
 const MACRO_TO_G2: [u8; 3] = [ESC, 0x2A, 0x7A];
 const END_DEFINITION: [u8; 2] = [ESC, 0x45];
-
-/// Data bytes of an incremental outline after its step. Were all their codes
-/// moves, a polygon would still have fewer vertices than the most.
-const OUTLINE: usize = 130;
 
 /// A page of about `size` bytes: whole items until the size is reached.
 pub fn page(kind: BenchKind, size: usize) -> Vec<u8> {
@@ -85,7 +76,7 @@ fn beginning(kind: BenchKind) -> Vec<u8> {
         BenchKind::Nested => [nested_bodies(&[]), vec![SHIFT_OUT, 0x24]].concat(),
         BenchKind::Cancels => [nested_bodies(&[CAN]), vec![SHIFT_OUT]].concat(),
         BenchKind::Calls => MACRO_TO_G0.to_vec(),
-        BenchKind::Mixed | BenchKind::Polygons | BenchKind::Increments => vec![SHIFT_OUT],
+        BenchKind::Mixed | BenchKind::Polygons => vec![SHIFT_OUT],
     }
 }
 
@@ -137,37 +128,7 @@ fn item(kind: BenchKind, random: &mut Random, page: &mut Vec<u8>) {
             page.extend([APR, APD]);
         }
         BenchKind::Captions => caption(random, page),
-        BenchKind::Increments => {
-            outline(INCREMENTAL_LINE, random, page);
-            outline(INCREMENTAL_POLYGON, random, page);
-        }
     }
-}
-
-/// An incremental outline: mostly moves, now and then a sign change, in a line
-/// sometimes a few moves with the pen up.
-fn outline(opcode: u8, random: &mut Random, page: &mut Vec<u8>) {
-    // Steps below 1/32.
-    page.extend([opcode, 0x40, 0x40]);
-    data(1, random, page);
-    let mut codes = Vec::new();
-    while codes.len() < 3 * OUTLINE {
-        match random.below(50) {
-            0 if opcode == INCREMENTAL_LINE => {
-                codes.extend([0, 0]);
-                moves(random.range(1, 5), random, &mut codes);
-                codes.extend([0, 0]);
-            }
-            0..=4 => codes.extend([0, random.byte(1, 3)]),
-            _ => moves(1, random, &mut codes),
-        }
-    }
-    let (bytes, _) = codes[..3 * OUTLINE].as_chunks();
-    page.extend(bytes.iter().map(|[a, b, c]| 0x40 | a << 4 | b << 2 | c));
-}
-
-fn moves(count: usize, random: &mut Random, codes: &mut Vec<u8>) {
-    codes.extend((0..count).map(|_| random.byte(1, 3)));
 }
 
 fn caption(random: &mut Random, page: &mut Vec<u8>) {

@@ -16,7 +16,6 @@ mod colour;
 mod command;
 mod drawing;
 pub mod generator;
-mod increment;
 pub mod kinds;
 pub mod listing;
 mod operand;

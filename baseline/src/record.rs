@@ -6,10 +6,8 @@ pub const RECORD: usize = 40;
 const HEADER: usize = 8;
 const FIELDS: usize = RECORD - HEADER;
 
-/// Records that a step writes, at most.
-pub const STEP_RECORDS: usize = 3;
-/// Bytes that have to be free before a step.
-pub const ROOM: usize = STEP_RECORDS * RECORD;
+/// Bytes that have to be free before a step: three records.
+pub const ROOM: usize = 3 * RECORD;
 
 /// Flag of a filled figure.
 pub const FILLED: u8 = 1;
@@ -133,13 +131,6 @@ impl<'a> Output<'a> {
     pub fn slots_in_step(&mut self) -> &mut [Slot] {
         let steps = self.free.len().saturating_sub(ROOM) / RECORD + 1;
         &mut self.free.as_chunks_mut().0[..steps]
-    }
-
-    /// All free slots, for steps that write up to three records each: one may
-    /// be taken while three slots are left.
-    #[inline]
-    pub fn free_slots(&mut self) -> &mut [Slot] {
-        self.free.as_chunks_mut().0
     }
 
     /// Passes the slots that were filled.

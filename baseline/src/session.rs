@@ -579,106 +579,30 @@ pub(crate) mod tests {
 
     const CAN: u8 = 0x18;
 
-    /// A step: the session before it, its byte, its number and its records.
-    struct Step<'a> {
-        before: &'a Session,
-        byte: Option<u8>,
-        number: Number,
-        records: &'a [u8],
-    }
-
-    /// Reads a page one step at a time.
-    fn each_step(page: &[u8], mut look: impl FnMut(Step)) {
+    /// The depths at which a page's CANs are carried out, found by reading it
+    /// one step at a time.
+    pub(crate) fn depths_of_cancels(page: &[u8]) -> Vec<usize> {
         let mut store = [0; STORE];
         let (mut session, _) = Session::open(&mut store, 0);
         let mut output = [0; ROOM];
         let mut rest = page;
+        let mut depths = Vec::new();
         loop {
-            let cells = store::cells(&store).expect("a store of the right size");
             session.status = Status::Running;
             session.budget += 1;
-            session.remove_spent(cells);
-            let before = session.clone();
-            let byte = before.next_byte(cells, rest);
+            session.remove_spent(store::cells(&store).expect("a store of the right size"));
+            let depth = session.depth;
             let answer = session.feed(&mut store, rest, &mut output);
             rest = answer.rest(rest);
-            look(Step {
-                before: &before,
-                byte,
-                number: answer.number,
-                records: &output[..answer.written],
-            });
+            let (records, _) = output[..answer.written].as_chunks::<RECORD>();
+            if records.last().is_some_and(is_cancel) {
+                depths.push(depth);
+            }
             match answer.number {
                 Number::Full | Number::BudgetUsed => {}
-                _ => return,
+                _ => return depths,
             }
         }
-    }
-
-    impl Session {
-        /// The byte that is read next, spent bodies being removed.
-        fn next_byte(&self, cells: &Cells, rest: &[u8]) -> Option<u8> {
-            match self.running().last() {
-                Some(innermost) => innermost.seek(cells).ok()?.1.first().copied(),
-                None => rest.first().copied(),
-            }
-        }
-
-        /// Whether bytes of columns 2 to 7 are read from the PDI set.
-        fn reads_pdi(&self) -> bool {
-            let g = match self.coding {
-                Coding::Plain => self.in_use,
-                Coding::Shifted(g) => g,
-                _ => return false,
-            };
-            self.sets[usize::from(g)] == Set::Pdi
-        }
-    }
-
-    /// The depths at which a page's CANs are carried out.
-    pub(crate) fn depths_of_cancels(page: &[u8]) -> Vec<usize> {
-        let mut depths = Vec::new();
-        each_step(page, |step| {
-            let (records, _) = step.records.as_chunks::<RECORD>();
-            if records.last().is_some_and(is_cancel) {
-                depths.push(step.before.depth);
-            }
-        });
-        depths
-    }
-
-    /// A byte of codes of an incremental outline, and what it met.
-    #[derive(Debug)]
-    pub(crate) struct CodesRead {
-        pub byte: u8,
-        pub in_body: bool,
-        pub polygon: bool,
-        pub changes: bool,
-        pub draws: bool,
-        pub vertices: u16,
-        pub refused: bool,
-    }
-
-    /// The bytes of codes of a page's incremental outlines.
-    pub(crate) fn codes_read(page: &[u8]) -> Vec<CodesRead> {
-        let mut read = Vec::new();
-        each_step(page, |step| {
-            let outline = step.before.drawing.open_outline();
-            if let (Some((polygon, increments, vertices)), Some(byte)) = (outline, step.byte) {
-                if step.before.reads_pdi() && is_data(byte) {
-                    read.push(CodesRead {
-                        byte,
-                        in_body: step.before.depth > 0,
-                        polygon,
-                        changes: increments.changes,
-                        draws: increments.draws,
-                        vertices,
-                        refused: step.number == Number::TooManyVertices,
-                    });
-                }
-            }
-        });
-        read
     }
 
     fn is_cancel(record: &[u8; RECORD]) -> bool {

@@ -5,7 +5,7 @@
 #![tactic(auto)]
 
 ghost use Rattle.std.specs.Prelude.{◌≡◌, ◌<◌};
-ghost use Rattle.io.specs.Counts.{IsPrefixLen};
+ghost use Rattle.rules.specs.Reading.{steps_left};
 ghost use Rattle.rules.specs.Step.{state_lent};
 ghost use Rattle.reader.specs.PieceRead.{PieceRead};
 
@@ -99,40 +99,28 @@ fn feed_piece(
     }
 }
 
-// What a read brought: how many bytes, and what follows.
-#[derive(Clone, Copy)]
-struct Got {
-    count: usize,
-    next: Next,
-}
-
-// Reads into the piece.
-fn read_bytes(piece: &mut [u8]) -> Got
-    ensures prefix_len { IsPrefixLen result.count piece.new }
-    ensures count_nonzero { result.next ≡ Next.Read → 0 < result.count }
+// Feeds a piece of standard input. One that is read has bytes, so less of the budget is left, and the loop over pieces ends.
+fn read_once(
+    session: Session,
+    store: &mut [u8; STORE_SIZE],
+    piece: &mut [u8],
+    out: &mut [u8; 163840],
+) -> Handover
+    ensures { result.next ≡ Next.Read →
+        steps_left (state_lent result.session store.new) < steps_left (state_lent session store.old) }
 {
     let got = libc::read(STDIN_FILENO, piece);
     if got < 0 {
         os::fail(b"standard input");
-        return Got {
-            count: 0,
-            next: Next::Failed,
-        };
+        return hand_on(session, Next::Failed);
     }
-    let count = io::count(got, piece);
-    if count == 0 {
-        return Got {
-            count,
-            next: Next::End,
-        };
+    let n = io::count(got, piece);
+    if n == 0 {
+        return hand_on(session, Next::End);
     }
-    Got {
-        count,
-        next: Next::Read,
-    }
+    feed_piece(session, store, &piece[..n], out)
 }
 
-// A piece that is read has bytes, so less of the budget is left, and the loop ends.
 fn read_page(
     session: Session,
     store: &mut [u8; STORE_SIZE],
@@ -141,13 +129,7 @@ fn read_page(
 ) -> Handover {
     let mut session = session;
     loop {
-        let got = read_bytes(piece);
-        let next = got.next;
-        let Next::Read = next else {
-            return hand_on(session, next);
-        };
-        let count = got.count;
-        let handover = feed_piece(session, store, &piece[..count], out);
+        let handover = read_once(session, store, piece, out);
         session = handover.session;
         let next = handover.next;
         let Next::Read = next else {

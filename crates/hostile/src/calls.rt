@@ -4,8 +4,7 @@ use reader::colour::colour;
 use reader::end::end;
 use reader::feed::feed;
 use reader::number::{number_of, shade_number, shade_values};
-use reader::open::open;
-use rules::{Answer, STORE_SIZE, Session};
+use rules::{Answer, Session};
 
 fn print_case(call: &[u8], name: &[u8]) {
     io::write_all(STDOUT_FILENO, call);
@@ -74,14 +73,6 @@ pub(crate) fn end_within(name: &[u8], session: Session, store: &[u8], room: isiz
 
 pub(crate) fn end_case(name: &[u8], session: Session, store: &[u8]) -> Session {
     end_within(name, session, store, 120)
-}
-
-// A feed of a session, and an end of the same session.
-pub(crate) fn both(name: &[u8], session: Session) {
-    let mut store = [0u8; STORE_SIZE];
-    open(&mut store, u32::MAX);
-    feed_case(name, session, &mut store, b"A");
-    end_case(name, session, &store);
 }
 
 pub(crate) fn colour_case(name: &[u8], session: Session, address: u8) {

@@ -5,10 +5,9 @@
 
 mod calls;
 mod cells;
-mod increments;
 mod sessions;
 
-use calls::{both, colour_case, end_case, end_within, feed_case, feed_within, print_open};
+use calls::{colour_case, end_case, end_within, feed_case, feed_within, print_open};
 use reader::end::end;
 use reader::open::open;
 use rules::{Definition, Positioning, STORE_SIZE, Session, Waiting};
@@ -67,6 +66,13 @@ fn stores() {
     store_case(b"store-8191", &mut shorter);
     let mut longer = [0u8; 8193];
     store_case(b"store-8193", &mut longer);
+}
+
+fn both(name: &[u8], session: Session) {
+    let mut store = [0u8; STORE_SIZE];
+    open(&mut store, u32::MAX);
+    feed_case(name, session, &mut store, b"A");
+    end_case(name, session, &store);
 }
 
 fn drawing_fields(session: Session) {
@@ -178,11 +184,6 @@ fn main() {
     let session = opened.session;
     stores();
     drawing_fields(session);
-    increments::lines(session);
-    increments::polygons(session);
-    increments::begun(session);
-    increments::vertices(session);
-    increments::buffers(session);
     text_fields(session);
     other_fields(session);
     steps_over_budget(session);

@@ -1,5 +1,5 @@
 // Sessions with a field changed, as no call hands them over.
-use rules::{Coding, Command, Due, Element, Session, Sets, Waiting};
+use rules::{Coding, Session, Waiting};
 
 pub(crate) fn with_lengths(session: Session, single: u8, multi: u8) -> Session {
     let mut session = session;
@@ -27,71 +27,6 @@ pub(crate) fn with_operand(session: Session, opcode: u8, count: u8) -> Session {
     let mut session = session;
     session.drawing.command.opcode = opcode;
     session.drawing.pen.operand.count = count;
-    session
-}
-
-fn used_g1(sets: Sets) -> Sets {
-    let g0 = sets.g0;
-    let g1 = sets.g1;
-    let g2 = sets.g2;
-    let g3 = sets.g3;
-    Sets {
-        g0,
-        g1,
-        g2,
-        g3,
-        used: Element::G1,
-    }
-}
-
-// The set in use is that of G1.
-fn with_g1(session: Session) -> Session {
-    let coding = session.coding;
-    let waiting = coding.waiting;
-    let firsts = coding.firsts;
-    let mut session = session;
-    let sets = used_g1(coding.sets);
-    let coding = Coding {
-        sets,
-        waiting,
-        firsts,
-    };
-    session.coding = coding;
-    session
-}
-
-// An open command of which an operand is due, read in G1.
-pub(crate) fn with_due(session: Session, opcode: u8, due: Due, vertices: u16) -> Session {
-    let command = session.drawing.command;
-    let start = command.start;
-    let kept = command.kept;
-    let command = Command {
-        start,
-        kept,
-        noted: false,
-        opcode,
-        due,
-        vertices,
-    };
-    let mut session = with_g1(session);
-    let mut drawing = session.drawing;
-    drawing.command = command;
-    session.drawing = drawing;
-    session
-}
-
-// The draw flag of an incremental command off.
-pub(crate) fn with_flag_off(session: Session) -> Session {
-    let mut session = session;
-    session.drawing.command.noted = true;
-    session
-}
-
-// The step of an incremental command, of any pattern.
-pub(crate) fn with_step(session: Session, step: u32) -> Session {
-    let mut session = session;
-    session.drawing.command.kept.x = step;
-    session.drawing.command.kept.y = step;
     session
 }
 

@@ -155,17 +155,9 @@ const ROWS: [Row; 32] = [
     // 3/9 INCREMENTAL POINT
     OTHER,
     // 3/10 INCREMENTAL LINE
-    Row {
-        pattern: Pattern::IncrementalLine,
-        kind: 2,
-        filled: false,
-    },
+    OTHER,
     // 3/11 INCREMENTAL POLYGON, filled
-    Row {
-        pattern: Pattern::IncrementalPolygon,
-        kind: 5,
-        filled: true,
-    },
+    OTHER,
     // 3/12 SET COLOUR
     Row {
         pattern: Pattern::SetColour,

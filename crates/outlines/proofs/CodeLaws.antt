@@ -109,16 +109,16 @@ code_law o filled code t s c l m e room = by_test (moves code t) moved still
 -- Codes in turn
 
 -- A point moved, and moved on or not
-pub on_moved : (w b : Bool) (q r : Point) (s : Pen) → (b ≡ false → r ≡ q) → moved_if b r (moved_if w q s) ≡ moved_if (w || b) r s
+on_moved : (w b : Bool) (q r : Point) (s : Pen) → (b ≡ false → r ≡ q) → moved_if b r (moved_if w q s) ≡ moved_if (w || b) r s
 on_moved false b q r s h = refl
 on_moved true true q r s h = follow_follow r q s
 on_moved true false q r s h = ap (λ (z : Point). follow z s) (sym (h refl))
 
-pub or_left : (a b : Bool) → (a || b) ≡ false → a ≡ false
+or_left : (a b : Bool) → (a || b) ≡ false → a ≡ false
 or_left true b e = e
 or_left false b e = refl
 
-pub or_right : (a b : Bool) → (a || b) ≡ false → b ≡ false
+or_right : (a b : Bool) → (a || b) ≡ false → b ≡ false
 or_right true b e = true_false e
 or_right false b e = e
 
@@ -126,12 +126,12 @@ or_right false b e = e
 next_still : (o : Outline) (code : ℕ) (t : Trail) → moves code t ≡ false → (next_trail o code t).point ≡ t.point
 next_still o code t h = ap (λ (b : Bool). (pick b (moved_trail o code t) (altered_trail o code t)).point) h
 
-pub still_after : (o : Outline) (cs : List ℕ) (t : Trail) → moved_after o cs t ≡ false → (trail_after o cs t).point ≡ t.point
+still_after : (o : Outline) (cs : List ℕ) (t : Trail) → moved_after o cs t ≡ false → (trail_after o cs t).point ≡ t.point
 still_after o [] t h = refl
 still_after o (c ∷ cs) t h =
     still_after o cs (next_trail o c t) (or_right (moves c t) _ h) ∙ next_still o c t (or_left (moves c t) _ h)
 
-pub moved_point : (w : Bool) (q : Point) (s : Pen) → (w ≡ false → s.point ≡ q) → (moved_if w q s).point ≡ q
+moved_point : (w : Bool) (q : Point) (s : Pen) → (w ≡ false → s.point ≡ q) → (moved_if w q s).point ≡ q
 moved_point true q s h = refl
 moved_point false q s h = h refl
 

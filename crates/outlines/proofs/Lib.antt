@@ -1,5 +1,3 @@
-pub mod DueLaws
 pub mod TrailLaws
 pub mod CodeLaws
-pub mod TraceLaws
 pub mod ByteLaws

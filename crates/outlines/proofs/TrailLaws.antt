@@ -17,8 +17,8 @@ use Rattle.records.proofs.Heads.{record_bytes}
 use Rattle.figures.specs.Carried.{Puts}
 use Rattle.figures.proofs.Carrying.{puts_none, puts_one, puts_then}
 use Rattle.outlines.specs.declared.changes.Trail.{Trail}
-use Rattle.outlines.specs.declared.codes.Inks.{Inks}
-use Rattle.outlines.specs.declared.codes.Coded.{Coded}
+use Rattle.outlines.specs.declared.Inks.{Inks}
+use Rattle.outlines.specs.declared.Coded.{Coded}
 use Rattle.outlines.specs.Trails.{moves, altered_trail, vertices_after, next_trail, kind_of, is_drawn, move_record, trail_after, moved_after, code_records, records_after, Inked, MovesOn, Follows}
 
 -- Whether a change is due after a code, by the code's tests

@@ -17,8 +17,8 @@ use Rattle.rules.specs.Drawing.{command_of}
 use Rattle.records.specs.Bytes.{head_of, head_bytes}
 use Rattle.figures.specs.Carried.{Puts}
 use Rattle.outlines.specs.declared.changes.Trail.{Trail}
-use Rattle.outlines.specs.declared.codes.Inks.{Inks}
-use Rattle.outlines.specs.declared.codes.Coded.{Coded}
+use Rattle.outlines.specs.declared.Inks.{Inks}
+use Rattle.outlines.specs.declared.Coded.{Coded}
 
 abbrev pub trail_of : Point → Command → Trail
 trail_of p c = record { point = p; step = c.kept; off = c.noted; changes = change_due c.due; vertices = c.vertices }

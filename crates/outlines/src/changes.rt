@@ -1,9 +1,8 @@
 // Codes that are no moves, and what a code names.
-ghost use Rattle.std.specs.Prelude.{◌≡◌, true, not, ◌||◌, eqb};
+ghost use Rattle.std.specs.Prelude.{◌≡◌, not, ◌||◌, eqb};
 ghost use Rattle.rules.specs.Choice.{pick};
 ghost use Rattle.rules.specs.Increments.{names_x, names_y, displacement, negated, sign_changed, change_due, changes_after};
-ghost use Rattle.rules.specs.Drawing.{with_due, with_step};
-ghost use Rattle.outlines.specs.Trails.{trail_of, due_for, on_trail, flag_after, altered_trail, IsCodes};
+ghost use Rattle.outlines.specs.Trails.{trail_of, due_for, on_trail, flag_after, altered_trail};
 
 use operands::negate;
 use rules::{Command, Due, Outline, Point};
@@ -107,18 +106,6 @@ fn is_change_due(due: Due) -> bool
     }
 }
 
-// Whether a code is due.
-pub(crate) fn is_code_due(due: Due) -> bool
-    ensures { (result ≡ true → IsCodes due) × (IsCodes due → result ≡ true) }
-{
-    match due {
-        Due::First => false,
-        Due::Second => true,
-        Due::Third => true,
-        Due::Past => false,
-    }
-}
-
 fn due_for(changes: bool) -> Due
     ensures { result ≡ due_for changes }
 {
@@ -140,21 +127,6 @@ pub fn trail_of(point: Point, command: Command) -> Trail
         off: command.noted,
         changes: is_change_due(due),
         vertices: command.vertices,
-    }
-}
-
-// The command with its step, and a move due.
-pub(crate) fn with_step(command: Command, step: Point) -> Command
-    ensures { result ≡ with_due Due.Second (with_step step command.noted command) }
-{
-    let start = command.start;
-    Command {
-        opcode: command.opcode,
-        due: Due::Second,
-        vertices: command.vertices,
-        start,
-        kept: step,
-        noted: command.noted,
     }
 }
 

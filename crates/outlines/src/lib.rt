@@ -1,183 +1,207 @@
-// Incremental outlines: their step and their codes, as many bytes as come or the codes of one.
+// Incremental outlines: the codes of a data byte, what they draw and what they change.
 #![tactic(auto)]
 
 pub mod changes;
-pub mod codes;
 
-ghost use Rattle.std.specs.Prelude.{◌≡◌, false, ◌+◌, ◌-◌, ◌<◌, ◌≤◌, length, get_or};
-ghost use Rattle.outlines.specs.Trails.{trail_of, IsCodes};
-ghost use Rattle.outlines.specs.Traces.{takes, start_at, Traces, Begins, Outlines};
-ghost use Rattle.rules.specs.Numbers.{room_for_step, most_vertices};
-ghost use Rattle.rules.specs.Increments.{codes};
+ghost use Rattle.std.specs.Prelude.{◌≡◌, ◌||◌, [], ◌∷◌, ◌++◌, ◌+◌, ◌≤◌, length, eqb};
+ghost use Rattle.rules.specs.declared.Record.{Record};
+ghost use Rattle.rules.specs.Numbers.{record_size, room_for_step, most_vertices, origin};
+ghost use Rattle.rules.specs.Choice.{pick};
+ghost use Rattle.rules.specs.Record.{words, bytes_of};
+ghost use Rattle.rules.specs.Increments.{codes, moves_in};
 ghost use Rattle.rules.specs.Drawing.{apply_codes};
-ghost use Rattle.figures.specs.Carried.{DrawsBy};
+ghost use Rattle.records.specs.Bytes.{head_bytes};
+ghost use Rattle.figures.specs.Carried.{Puts, DrawsBy};
+ghost use Rattle.outlines.specs.Trails.{kind_of, is_drawn, vertices_after, Inked, MovesOn, Follows, overflows, IsCodes};
 
-use crate::changes::{Trail, is_code_due, trail_of, with_step, with_trail};
-use crate::codes::{Coded, Inks, apply_codes, inks_of, overflows};
-use drawing_runs::Passed;
+use crate::changes::{Trail, alter, changes_after, displacement, is_move, trail_of, with_trail};
 use figures::Drawn;
 use figures::answers::moved_if;
-use operands::whole::{Whole, whole_point};
-use rules::{Command, Domain, Due, Look, Outline, Pen, Point, ROOM_FOR_STEP};
+use operands::displace;
+use records::{Head, flags, head_of, put_words};
+use rules::{Command, Look, MOST_VERTICES, ORIGIN, Outline, Pen, Point, RECORD_SIZE};
 
-// How many bytes of codes were carried out, and what they came to.
+// The heads of the records of moves, by whether a sum left the range, and the pel.
 #[derive(Clone, Copy)]
-struct CodeRun {
-    count: usize,
-    coded: Coded,
+pub struct Inks {
+    pub plain: Head,
+    pub wrapped: Head,
+    pub pel: Point,
 }
 
-// How many bytes the step has, and the command after them.
+// The place after the records, whether the point was moved, and the trail.
 #[derive(Clone, Copy)]
-struct Stepped {
-    count: usize,
-    command: Command,
+pub struct Coded {
+    pub at: usize,
+    pub moved: bool,
+    pub trail: Trail,
 }
 
-// Whether a byte is carried out where so much of the output is free.
-fn takes(outline: Outline, byte: u8, free: usize, trail: Trail) -> bool
-    ensures { result ≡ takes outline byte free trail }
+// The kind of an outline's records.
+fn kind_of(outline: Outline) -> u8
+    ensures { result ≡ kind_of outline }
 {
-    if free < ROOM_FOR_STEP {
-        return false;
+    match outline {
+        Outline::Line => 2,
+        Outline::Polygon => 5,
     }
-    if byte / 64 != 1 {
-        return false;
-    }
-    !overflows(outline, byte, trail)
 }
 
-// As many bytes of codes as can be carried out.
-fn trace_codes(
-    outline: Outline,
-    inks: Inks,
-    trail: Trail,
-    bytes: &[u8],
-    from: usize,
-    to: usize,
+fn inks_of(outline: Outline, filled: bool, look: Look) -> Inks
+    ensures { Inked result outline filled look }
+{
+    let kind = kind_of(outline);
+    let plain = head_of(look, kind, flags(filled, false, false), 0, 0);
+    let wrapped = head_of(look, kind, flags(filled, true, false), 0, 0);
+    let pel = look.domain.pel;
+    Inks {
+        plain,
+        wrapped,
+        pel,
+    }
+}
+
+// The head of a move's record.
+fn head_for(inks: Inks, outside: bool) -> Head
+    ensures { result ≡ pick outside inks.wrapped inks.plain }
+{
+    let plain = inks.plain;
+    let wrapped = inks.wrapped;
+    if outside { wrapped } else { plain }
+}
+
+// Whether a move is drawn: a line's unless the draw flag is off, a polygon's always.
+fn is_drawn(outline: Outline, off: bool) -> bool
+    ensures { result ≡ is_drawn outline off }
+{
+    match outline {
+        Outline::Line => !off,
+        Outline::Polygon => true,
+    }
+}
+
+// The vertices after a move.
+fn vertices_after(outline: Outline, vertices: u16) -> u16
+    requires { vertices ≤ most_vertices + 2 }
+    ensures { result ≡ vertices_after outline vertices }
+{
+    match outline {
+        Outline::Line => vertices,
+        Outline::Polygon => vertices + 1,
+    }
+}
+
+// Writes the record of a move, if it is drawn, and answers the place after it.
+fn put_move(
+    drawn: bool,
+    head: Head,
+    p: Point,
+    q: Point,
+    pel: Point,
     out: &mut [u8],
     at: usize,
-) -> CodeRun
-    requires { (from ≤ to) × (to ≤ length bytes.now) × (at ≤ length out.old) }
-    ensures traced { Traces outline inks bytes.now from (start_at at trail) out.old result.count
-        result.coded out.new }
-    ensures most { from + result.count ≤ to }
-    ensures ends { from < to → result.count ≡ 0
-        → takes outline (get_or bytes.now from 0) (length out.old - at) trail ≡ false }
+) -> usize
+    requires { at + record_size ≤ length out.old }
+    ensures put { (x : Record) → head_bytes head ++ words p ++ words q ++ words origin ++ words pel ≡ bytes_of x
+        → Puts (pick drawn (x ∷ []) []) at out.old result out.new }
+    ensures most { result ≤ at + record_size }
 {
-    let mut coded = Coded {
-        at,
-        moved: false,
-        trail,
-    };
-    let mut place = from;
-    while place < to {
-        let byte = bytes[place];
-        if !takes(outline, byte, out.len() - coded.at, coded.trail) {
-            return CodeRun {
-                count: place - from,
-                coded,
-            };
-        }
-        coded = apply_codes(outline, byte, coded, inks, out);
-        place += 1;
+    if drawn {
+        put_words(out, at, head, p, q, ORIGIN, pel);
+        return at + RECORD_SIZE;
     }
-    CodeRun {
-        count: place - from,
-        coded,
-    }
+    at
 }
 
-// The step, if it comes whole.
-fn whole_step(command: Command, domain: Domain, bytes: &[u8], from: usize, to: usize) -> Stepped
-    requires { (command.due ≡ Due.First) × (domain.multi ≤ 8) × (from ≤ to) × (to ≤ length bytes.now) }
-    ensures begun { Begins bytes.now from command domain result.count result.command }
-    ensures most { from + result.count ≤ to }
+// A move by the axes that a code names.
+fn move_on(outline: Outline, code: u8, coded: Coded, inks: Inks, out: &mut [u8]) -> Coded
+    requires { (coded.trail.vertices ≤ most_vertices + 2) × (coded.at + record_size ≤ length out.old) }
+    ensures { MovesOn outline inks code coded out.old result out.new }
 {
-    let n = domain.multi as usize;
-    if n <= to - from {
-        let whole = whole_point(bytes, from, n, domain.three);
-        if let Whole::Whole(step) = whole {
-            return Stepped {
-                count: n,
-                command: with_step(command, step),
-            };
-        }
-    }
-    Stepped { count: 0, command }
-}
-
-// The step, if it is due and comes whole.
-fn take_step(command: Command, domain: Domain, bytes: &[u8], from: usize, to: usize) -> Stepped
-    requires { (command.due ≡ Due.First → domain.multi ≤ 8) × (from ≤ to) × (to ≤ length bytes.now) }
-    ensures begun { Begins bytes.now from command domain result.count result.command }
-    ensures most { from + result.count ≤ to }
-{
-    let due = command.due;
-    if let Due::First = due {
-        return whole_step(command, domain, bytes, from, to);
-    }
-    Stepped { count: 0, command }
-}
-
-// As many bytes as can be carried out of an incremental command with no byte of its step begun.
-pub fn trace_outline(
-    outline: Outline,
-    filled: bool,
-    point: Point,
-    command: Command,
-    look: Look,
-    bytes: &[u8],
-    from: usize,
-    to: usize,
-    out: &mut [u8],
-    at: usize,
-) -> Passed
-    requires { (command.due ≡ Due.First → look.domain.multi ≤ 8) × (from ≤ to) × (to ≤ length bytes.now)
-        × (at ≤ length out.old) }
-    ensures traced { Outlines outline filled bytes.now from point command look at out.old result
-        out.new }
-    ensures most { from + result.count ≤ to }
-    ensures ends { IsCodes command.due → from < to → result.count ≡ 0
-        → takes outline (get_or bytes.now from 0) (length out.old - at) (trail_of point command) ≡ false }
-{
-    let stepped = take_step(command, look.domain, bytes, from, to);
-    let outlined = stepped.command;
-    let due = outlined.due;
-    if !is_code_due(due) {
-        return Passed {
-            count: 0,
-            at,
-            moved: false,
-            point,
-            command,
-        };
-    }
-    let inks = inks_of(outline, filled, look);
-    let trail = trail_of(point, outlined);
-    let traced = trace_codes(
-        outline,
-        inks,
-        trail,
-        bytes,
-        from + stepped.count,
-        to,
-        out,
-        at,
-    );
-    let coded = traced.coded;
     let trail = coded.trail;
-    let point = trail.point;
-    Passed {
-        count: stepped.count + traced.count,
+    let p = trail.point;
+    let aimed = displace(p, displacement(code, trail.step));
+    let q = aimed.point;
+    let drawn = is_drawn(outline, trail.off);
+    let head = head_for(inks, aimed.outside);
+    let at = put_move(drawn, head, p, q, inks.pel, out, coded.at);
+    let vertices = vertices_after(outline, trail.vertices);
+    let step = trail.step;
+    Coded {
+        at,
+        moved: true,
+        trail: Trail {
+            point: q,
+            step,
+            off: trail.off,
+            changes: trail.changes,
+            vertices,
+        },
+    }
+}
+
+// One code: a move, or what alters the trail.
+fn apply_code(outline: Outline, code: u8, coded: Coded, inks: Inks, out: &mut [u8]) -> Coded
+    requires { (coded.trail.vertices ≤ most_vertices + 2) × (coded.at + record_size ≤ length out.old) }
+    ensures { Follows outline inks (code ∷ []) coded out.old result out.new }
+{
+    let trail = coded.trail;
+    if is_move(code, trail.changes) {
+        return move_on(outline, code, coded, inks, out);
+    }
+    Coded {
         at: coded.at,
         moved: coded.moved,
-        point,
-        command: with_trail(outlined, trail),
+        trail: alter(outline, code, trail),
     }
 }
 
-// The codes of a data byte, unless one of them is a vertex too many: then no byte is carried out.
+// The three codes of a byte, b6 b5 first.
+fn apply_codes(outline: Outline, byte: u8, coded: Coded, inks: Inks, out: &mut [u8]) -> Coded
+    requires { (coded.trail.vertices ≤ most_vertices) × (coded.at + room_for_step ≤ length out.old) }
+    ensures { Follows outline inks (codes byte) coded out.old result out.new }
+{
+    let first = apply_code(outline, byte / 16 % 4, coded, inks, out);
+    let second = apply_code(outline, byte / 4 % 4, first, inks, out);
+    apply_code(outline, byte % 4, second, inks, out)
+}
+
+// How many moves a code makes: one or none.
+fn moves_of(code: u8, changes: bool) -> u16
+    ensures { (result ≡ pick (changes || eqb code 0) 0 1) × (result ≤ 1) }
+{
+    if is_move(code, changes) {
+        return 1;
+    }
+    0
+}
+
+// The vertices that a polygon would have after a byte.
+fn vertices_with(byte: u8, trail: Trail) -> u16
+    requires { trail.vertices ≤ most_vertices }
+    ensures { result ≡ trail.vertices + moves_in Outline.Polygon (codes byte) trail.changes }
+{
+    let first = byte / 16 % 4;
+    let second = byte / 4 % 4;
+    let third = byte % 4;
+    let changes = trail.changes;
+    let next = changes_after(Outline::Polygon, first, changes);
+    let last = changes_after(Outline::Polygon, second, next);
+    trail.vertices + (moves_of(first, changes) + (moves_of(second, next) + moves_of(third, last)))
+}
+
+// Whether the codes of a byte have a vertex too many.
+fn overflows(outline: Outline, byte: u8, trail: Trail) -> bool
+    requires { trail.vertices ≤ most_vertices }
+    ensures { result ≡ overflows outline byte trail }
+{
+    match outline {
+        Outline::Line => false,
+        Outline::Polygon => MOST_VERTICES < vertices_with(byte, trail),
+    }
+}
+
+// The codes of a data byte, unless one of them is a vertex too many.
 pub fn draw_codes(
     outline: Outline,
     filled: bool,
@@ -191,11 +215,9 @@ pub fn draw_codes(
     requires { (command.vertices ≤ most_vertices) × (IsCodes command.due) × (at + room_for_step ≤ length out.old) }
     ensures { DrawsBy (apply_codes outline filled (codes byte)) pen command look at out.old result out.new }
 {
-    let data = 64 + byte % 64;
-    let bytes = [data; 1];
     let point = pen.point;
-    let traced = trace_outline(outline, filled, point, command, look, &bytes, 0, 1, out, at);
-    if traced.count == 0 {
+    let trail = trail_of(point, command);
+    if overflows(outline, byte, trail) {
         return Drawn {
             too_many_vertices: true,
             at,
@@ -204,11 +226,18 @@ pub fn draw_codes(
             look,
         };
     }
-    let pen = moved_if(traced.moved, pen, traced.point);
-    let command = traced.command;
+    let begun = Coded {
+        at,
+        moved: false,
+        trail,
+    };
+    let coded = apply_codes(outline, byte, begun, inks_of(outline, filled, look), out);
+    let trail = coded.trail;
+    let pen = moved_if(coded.moved, pen, trail.point);
+    let command = with_trail(command, trail);
     Drawn {
         too_many_vertices: false,
-        at: traced.at,
+        at: coded.at,
         pen,
         command,
         look,

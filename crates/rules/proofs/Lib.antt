@@ -13,7 +13,6 @@ pub mod WorkedTextPages
 pub mod WorkedColours
 pub mod WorkedCancels
 pub mod WorkedIncrements
-pub mod WorkedIncrementPages
 pub mod WorkedCalls
 pub mod DrawingRanges
 pub mod RecordCount

@@ -1,6 +1,6 @@
 -- The table of opcodes: its rows say what the bullets of "Operands and opcodes" say, group by group; and a row found by its place
-use Rattle.rules.specs.Prelude.{ℕ, zero, suc, ◌-◌, ◌%◌, arith, ◌≡◌, refl, sym, ◌∙◌, ◌&&◌, ◌||◌, List, [], ◌∷◌, ◌++◌, map, get_or, replicate, ltb, leb, eqb, ltb-true}
-use Rattle.rules.specs.Types.{Due, First, Second, Third, Role, MoveTo, Start, StepSize, LineCodes, PolygonCodes}
+use Rattle.rules.specs.Prelude.{ℕ, zero, suc, ◌-◌, ◌%◌, arith, ◌≡◌, refl, sym, ◌∙◌, ◌&&◌, List, [], ◌∷◌, ◌++◌, map, get_or, replicate, ltb, leb, eqb, ltb-true}
+use Rattle.rules.specs.Types.{Due, First, Second, Third, IncrementalLine, IncrementalPolygon, Role, MoveTo, Start, StepSize, LineCodes, PolygonCodes}
 use Rattle.rules.specs.Drawing.{other, rows, row_of, role_of}
 use Rattle.rules.proofs.Bools.{by_test, pick_yes, pick_no}
 use Rattle.rules.proofs.Compute.{rules}
@@ -14,17 +14,16 @@ codes_from (suc n) c = c ∷ codes_from n (suc c)
 abbrev opcodes : List ℕ
 opcodes = codes_from 32 32
 
--- "Odd codes of ARC, RECTANGLE, POLYGON are filled.", which are the codes from 2/12 to 3/7; 02, 5/13: "filled incremental polygons", 3/11;
--- and no other code is
-filled_as_said : map (λ c. (row_of c).filled) opcodes ≡ map (λ c. ((leb 44 c && leb c 55) && eqb (c % 2) 1) || eqb c 59) opcodes
+-- "Odd codes of ARC, RECTANGLE, POLYGON are filled.", which are the codes from 2/12 to 3/7, and no other code is
+filled_as_said : map (λ c. (row_of c).filled) opcodes ≡ map (λ c. (leb 44 c && leb c 55) && eqb (c % 2) 1) opcodes
 unfolding rules
 filled_as_said = refl
 
 -- The kinds by group: no record of DOMAIN, POINT SET and SELECT COLOUR, 1 POINT, 2 LINE, 3 ARC, 4 RECTANGLE, 5 POLYGON, 8 SET COLOUR;
--- "Others write kind 9 when opened; .." 02, 5/13: 3/10 has kind 2 and 3/11 kind 5
+-- "Others write kind 9 when opened; .."
 kinds_as_said : map (λ c. (row_of c).kind) opcodes
     ≡ (9 ∷ 0 ∷ 9 ∷ 9 ∷ []) ++ (0 ∷ 0 ∷ []) ++ (1 ∷ 1 ∷ []) ++ replicate 4 2 ++ replicate 4 3
-    ++ replicate 4 4 ++ replicate 4 5 ++ (9 ∷ 9 ∷ 2 ∷ 5 ∷ []) ++ (8 ∷ 9 ∷ 0 ∷ 9 ∷ [])
+    ++ replicate 4 4 ++ replicate 4 5 ++ replicate 4 9 ++ (8 ∷ 9 ∷ 0 ∷ 9 ∷ [])
 unfolding rules
 kinds_as_said = refl
 
@@ -50,11 +49,11 @@ unfolding rules
 thirds_as_said = refl
 
 -- 02, 5/13: "the step size", then "three moves to a data byte"
-line_as_said : map (role_at 58) (First ∷ Second ∷ Third ∷ []) ≡ StepSize ∷ replicate 2 LineCodes
+line_as_said : map (role_of IncrementalLine) (First ∷ Second ∷ Third ∷ []) ≡ StepSize ∷ replicate 2 LineCodes
 unfolding rules
 line_as_said = refl
 
-polygon_as_said : map (role_at 59) (First ∷ Second ∷ Third ∷ []) ≡ StepSize ∷ replicate 2 PolygonCodes
+polygon_as_said : map (role_of IncrementalPolygon) (First ∷ Second ∷ Third ∷ []) ≡ StepSize ∷ replicate 2 PolygonCodes
 unfolding rules
 polygon_as_said = refl
 

@@ -1,28 +1,35 @@
--- Data of incremental outlines (02, 5/13), worked by hand: an outline opened at (0, 0), its data and closing
-use Rattle.rules.specs.Prelude.{ℕ, ◌-◌, ◌^◌, ◌≡◌, refl, List, [], ◌∷◌, ◌++◌, map, length, replicate}
-use Rattle.rules.specs.Types.{Drawing, Record, Data, Refused}
-use Rattle.rules.specs.Drawing.{Outcome, NotDrawn, Draw, and_then, close, open_command, act, fresh_drawing}
+-- Data of incremental outlines (02, 5/13), worked by hand: read by their rows from a fresh drawing, and closed
+use Rattle.rules.specs.Prelude.{ℕ, ◌-◌, ◌^◌, ◌≡◌, refl, true, false, List, [], ◌∷◌, ◌++◌, map, length, replicate}
+use Rattle.rules.specs.Types.{IncrementalLine, IncrementalPolygon, Drawing, Row, Record, Refused}
+use Rattle.rules.specs.Numbers.{origin}
+use Rattle.rules.specs.Drawing.{row, role_due, with_command, Outcome, NotDrawn, Draw, and_then, data_byte, complete, finish, new_command, fresh_drawing}
 use Rattle.rules.specs.Calls.{number_of}
 use Rattle.rules.proofs.Compute.{rules}
 
--- The opcodes 3/10 and 3/11
-abbrev line : ℕ
-line = 58
+-- An outline by its opcode and row
+record Kind : Type 0 where
+  opcode : ℕ
+  row : Row
 
-abbrev polygon : ℕ
-polygon = 59
+abbrev line : Kind
+line = record { opcode = 58; row = row IncrementalLine 2 false }
 
--- Data bytes in turn, by the row of the open command
-fed : List ℕ → Drawing → Outcome
-fed [] d = Draw d []
-fed (b ∷ bs) d = and_then (act (Data b) d) (fed bs)
+abbrev polygon : Kind
+polygon = record { opcode = 59; row = row IncrementalPolygon 5 true }
 
--- An opcode and its data, and then closing
-abbrev begun : ℕ → List ℕ → Outcome
-begun o bs = and_then (open_command o fresh_drawing) (fed bs)
+-- Data bytes in turn
+fed : Row → List ℕ → Drawing → Outcome
+fed r [] d = Draw d []
+fed r (b ∷ bs) d = and_then (data_byte r b d) (fed r bs)
 
-abbrev whole : ℕ → List ℕ → Outcome
-whole o bs = and_then (begun o bs) close
+-- The outline opened at (0, 0), its data, and closing
+abbrev begun : Kind → List ℕ → Outcome
+begun k bs = fed k.row bs (with_command (new_command k.opcode origin) fresh_drawing)
+
+abbrev whole : Kind → List ℕ → Outcome
+whole k bs =
+    let r = k.row in
+    and_then (begun k bs) (λ d. and_then (complete r d) (λ e. finish (role_due r e) r.filled e))
 
 -- Of each record kind, flags, x0, y0, x1 and y1, and the drawing point left; a negative coordinate is its pattern
 
@@ -38,17 +45,17 @@ told_of (NotDrawn r) = record { records = []; point = [] }
 told_of (Draw d rs) = record { records = map seen rs; point = d.pen.point.x ∷ d.pen.point.y ∷ [] }
 
 record Worked : Type 0 where
-  opcode : ℕ
+  kind : Kind
   bytes : List ℕ
   told : Told
 
-abbrev worked : ℕ → List ℕ → List (List ℕ) → List ℕ → Worked
-worked o bs rs p = record { opcode = o; bytes = bs; told = record { records = rs; point = p } }
+abbrev worked : Kind → List ℕ → List (List ℕ) → List ℕ → Worked
+worked k bs rs p = record { kind = k; bytes = bs; told = record { records = rs; point = p } }
 
 abbrev minus : ℕ → ℕ
 minus n = 2 ^ 32 - n
 
--- A step of a quarter of the range in both axes
+-- A step of an quarter of the range in both axes
 abbrev quarter : List ℕ
 quarter = 73 ∷ 64 ∷ 64 ∷ []
 
@@ -164,7 +171,7 @@ table =
     ∷ worked polygon (64 ∷ 64 ∷ 64 ∷ 80 ∷ []) ((5 ∷ 1 ∷ 0 ∷ 0 ∷ 0 ∷ 0 ∷ []) ∷ (5 ∷ 5 ∷ 0 ∷ 0 ∷ 0 ∷ 0 ∷ []) ∷ []) (0 ∷ 0 ∷ [])
     ∷ []
 
-increments_worked : map (λ w. told_of (whole w.opcode w.bytes)) table ≡ map (λ w. w.told) table
+increments_worked : map (λ w. told_of (whole w.kind w.bytes)) table ≡ map (λ w. w.told) table
 unfolding rules fed table
 increments_worked = refl
 

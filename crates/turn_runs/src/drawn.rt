@@ -14,7 +14,6 @@ use command_runs::run_commands;
 use command_steps::effectors::run_format;
 use drawing_runs::Drew;
 use drawing_runs::strokes::draw_strokes;
-use outline_runs::{is_incremental, run_outline};
 use pens::tips::{Tip, catch_up, tip_of};
 use pens::words::{put_text, text_of};
 use progress::{Progress, Reached};
@@ -68,7 +67,7 @@ pub(crate) fn none_begun(operand: Operand) -> bool
     operand.count == 0
 }
 
-// What no run of points takes: a format effector, the data of an incremental command, or the operands of TEXT.
+// What no run of points takes: a format effector, or the operands of TEXT.
 fn draw_next(
     words: &mut [u32; 9],
     tip: Tip,
@@ -94,9 +93,6 @@ fn draw_next(
     }
     if bytes[from] < 32 {
         return run_format(words, tip, command, look, bytes, from, out, at);
-    }
-    if is_incremental(command.opcode) {
-        return run_outline(tip, command, look, bytes, from, to, out, at);
     }
     set_text(words, tip, command, look, bytes, from, to, at)
 }

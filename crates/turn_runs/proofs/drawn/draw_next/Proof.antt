@@ -37,30 +37,14 @@ same_length c = search rules
 returns-3 : tie.Need-returns-3
 returns-3 c = search rules
 
-run-outline-requires : tie.Need-run-outline-requires
-run-outline-requires c κs =
-    let is-incremental· = c.before.before.is-incremental in
-    let if4· = c.before.if4 in
-    let pre· = c.before.before.before.before.before.before.before.before.before.requires in
-    let if2· = c.before.before.before.before.before.if2 in
-    (is-incremental·.ensures if4·.true, pre·.0, pre·.1, pre·.2, pre·.3, omega (arith, if2·.false, pre·.4))
-
-same-length-2 : tie.Need-same-length-2
-same-length-2 c = search rules
-
-returns-4 : tie.Need-returns-4
-returns-4 c =
-    let run-outline· = c.before.before.run-outline in
-    (run-outline·.ensures.0 _, run-outline·.ensures.1)
-
 set-text-requires : tie.Need-set-text-requires
 set-text-requires c κs = search rules
 
-returns-5 : tie.Need-returns-5
-returns-5 c =
+returns-4 : tie.Need-returns-4
+returns-4 c =
     let set-text· = c.set-text in
-    let if2· = c.before.before.before.before.before.before.if2 in
-    let pre· = c.before.before.before.before.before.before.before.before.before.before.requires in
+    let if2· = c.before.before.before.before.if2 in
+    let pre· = c.before.before.before.before.before.before.before.before.requires in
     (set-text·.ensures.0 _ (omega (arith, if2·.false, pre·)), set-text·.ensures.1)
 
 pub draw-next-spec : {M : Type 1} → statement M
@@ -76,9 +60,5 @@ draw-next-spec =
     run-format-requires
     same_length
     returns-3
-    (λ c κs. search rules)
-    run-outline-requires
-    same-length-2
-    returns-4
     set-text-requires
-    returns-5)
+    returns-4)

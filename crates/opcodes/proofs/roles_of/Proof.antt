@@ -1,0 +1,55 @@
+use Rattle.opcodes.proofs.Prelude.{refl, needs}
+use Rattle.rules.specs.Drawing.{role_of}
+use Rattle.opcodes.proofs.roles_of.Statement.{statement}
+use Rattle.opcodes.proofs.roles_of.Tie as tie
+
+pub roles-of-spec : {M : Type 1} → statement M
+unfolding role_of
+roles-of-spec =
+    tie.close
+    (tie.spec
+    (λ c. search needs)
+    (λ c κs. search needs)
+    (λ c. search needs)
+    (λ c κs. search needs)
+    (λ c. search needs)
+    (λ c κs. search needs)
+    (λ c. search needs)
+    (λ c κs. search needs)
+    (λ c. search needs)
+    (λ c κs. search needs)
+    (λ c. search needs)
+    (λ c κs. search needs)
+    (λ c. search needs)
+    (λ c κs. search needs)
+    (λ c. search needs)
+    (λ c κs. search needs)
+    (λ c. search needs)
+    (λ c κs. search needs)
+    (λ c. search needs)
+    (λ c κs. search needs)
+    (λ c. search needs)
+    (λ c κs. search needs)
+    (λ c. search needs)
+    (λ c κs. search needs)
+    (λ c. search needs)
+    (λ c κs. search needs)
+    (λ c. search needs)
+    (λ c κs. search needs)
+    (λ c. search needs)
+    (λ c κs. search needs)
+    (λ c. rw (c.before.enum_told.given.1, c.then-all.ensures) (refl, refl, refl, refl))
+    (λ c. rw (c.before.enum-told2.given.1, c.then-all2.ensures) (refl, refl, refl, refl))
+    (λ c. rw (c.before.enum-told3.given.1, c.then-all3.ensures) (refl, refl, refl, refl))
+    (λ c. rw (c.before.enum-told4.given.1, c.then-all4.ensures) (refl, refl, refl, refl))
+    (λ c. rw (c.before.enum-told5.given.1, c.four-roles.ensures) (refl, refl, refl, refl))
+    (λ c. rw (c.before.enum-told6.given.1, c.four-roles2.ensures) (refl, refl, refl, refl))
+    (λ c. rw (c.before.enum-told7.given.1, c.then-all5.ensures) (refl, refl, refl, refl))
+    (λ c. rw (c.before.enum-told8.given.1, c.then-all6.ensures) (refl, refl, refl, refl))
+    (λ c. rw (c.before.enum-told9.given.1, c.four-roles3.ensures) (refl, refl, refl, refl))
+    (λ c. rw (c.before.enum-told10.given.1, c.four-roles4.ensures) (refl, refl, refl, refl))
+    (λ c. rw (c.before.enum-told11.given.1, c.four-roles5.ensures) (refl, refl, refl, refl))
+    (λ c. rw (c.before.enum-told12.given.1, c.four-roles6.ensures) (refl, refl, refl, refl))
+    (λ c. rw (c.before.enum-told13.given.1, c.four-roles7.ensures) (refl, refl, refl, refl))
+    (λ c. rw (c.before.enum-told14.given.1, c.then-all7.ensures) (refl, refl, refl, refl))
+    (λ c. rw (c.before.enum-told15.given.1, c.then-all8.ensures) (refl, refl, refl, refl)))
