@@ -1,0 +1,13 @@
+use Rattle.opcodes.proofs.nth_role.Goals as goal
+
+pub returns-in-First : goal.returns-in-First
+returns-in-First c = rw c.in-First.is
+
+pub returns-in-Second : goal.returns-in-Second
+returns-in-Second c = rw c.in-Second.is
+
+pub returns-in-Third : goal.returns-in-Third
+returns-in-Third c = rw c.in-Third.is
+
+pub returns-in-Past : goal.returns-in-Past
+returns-in-Past c = rw c.in-Past.is
