@@ -1,0 +1,4 @@
+use Rattle.drawing.proofs.reset_look.Goals as goal
+
+pub returns : goal.returns
+returns c = c.fresh_look.ensures
