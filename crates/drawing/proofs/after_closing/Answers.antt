@@ -27,7 +27,7 @@ returns-in-Reset c =
 pub returns-in-Character : goal.returns-in-Character
 unfolding after_closing
 returns-in-Character c =
-    λ m. one_after _ _ _ _ _ _ (rw (c.in-Character.is, c.type-inv.ensures)) (rw c.set_number.ensures at c.character.ensures) c.put_record.ensures
+    λ m. one_after _ _ _ _ _ _ (rw (c.in-Character.is, c.typed-pen.ensures)) (rw c.set_number.ensures at c.character.ensures) c.put_record.ensures
 
 pub open_at-opened-requires : goal.open_at-opened-requires
 open_at-opened-requires c =
