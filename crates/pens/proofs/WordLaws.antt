@@ -1,5 +1,6 @@
 -- Words hold a text: what is put into them is what they are read as
-use Rattle.pens.specs.Prelude.{ℕ, ◌+◌, ◌*◌, ◌/◌, ◌%◌, ◌<◌, ◌≤◌, ◌≡◌, refl, ap, ◌∙◌, arith, List, [], ◌∷◌, length, get_or, set}
+use Rattle.std.specs.Prelude.{◌+◌, ◌*◌, ◌/◌, ◌%◌, ◌<◌, ◌≤◌, ◌≡◌, ◌∷◌}
+use Rattle.pens.specs.Prelude.{ℕ, refl, ap, ◌∙◌, arith, List, [], length, get_or, set}
 use Rattle.rules.specs.declared.Interrow.TheVariants.{OneRow, FiveFourthsRow, ThreeHalvesRow, TwoRows}
 use Rattle.rules.specs.declared.Moving.TheVariants.{Together, CursorLeads, PointLeads, Independent}
 use Rattle.rules.specs.declared.Pair.TheVariants.{NoPair, Automatic, ReturnSeen, FeedSeen}

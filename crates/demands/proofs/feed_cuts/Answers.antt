@@ -1,4 +1,4 @@
-use Rattle.demands.specs.Prelude.{arith, ◌-◌}
+use Rattle.demands.specs.Prelude.{arith}
 use Rattle.rules.specs.Step.{state_lent}
 use Rattle.demands.proofs.CutLaws.{going_first, going_more, going_end}
 use Rattle.demands.proofs.feed_cuts.Goals as goal

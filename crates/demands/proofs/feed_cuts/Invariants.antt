@@ -1,4 +1,5 @@
-use Rattle.demands.specs.Prelude.{◌-◌, length}
+use Rattle.std.specs.Prelude.{◌-◌}
+use Rattle.demands.specs.Prelude.{length}
 use Rattle.rules.specs.Promises.{handed_of}
 use Rattle.demands.proofs.CutLaws.{Going}
 use Rattle.demands.proofs.feed_cuts.Given as goal

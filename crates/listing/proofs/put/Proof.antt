@@ -1,5 +1,6 @@
 use Rattle.listing.proofs.Places.{copied}
-use Rattle.listing.specs.Prelude.{arith, ap, ℕ, ◌+◌, needs}
+use Rattle.std.specs.Prelude.{◌+◌}
+use Rattle.listing.specs.Prelude.{arith, ap, ℕ, needs}
 use Rattle.listing.proofs.put.Statement.{statement}
 use Rattle.listing.proofs.put.Tie as tie
 

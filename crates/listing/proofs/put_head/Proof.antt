@@ -1,4 +1,5 @@
-use Rattle.listing.specs.Prelude.{List, arith, add-one, ◌≡◌, refl, ℕ, ◌+◌, ◌*◌, ◌-◌, ◌≤◌, length, lt-ltb, needs}
+use Rattle.std.specs.Prelude.{◌≡◌, ◌+◌, ◌*◌, ◌-◌, ◌≤◌}
+use Rattle.listing.specs.Prelude.{List, arith, add-one, refl, ℕ, length, lt-ltb, needs}
 use Rattle.digits.proofs.Decimals.{decimal_length}
 use Rattle.digits.proofs.Places.{nothing, joined}
 use Rattle.digits.specs.Decimal.{Put}

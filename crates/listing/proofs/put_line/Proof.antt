@@ -1,7 +1,8 @@
 use Rattle.digits.proofs.Places.{joined}
 use Rattle.digits.specs.Decimal.{Put}
 use Rattle.listing.specs.Text.{field_of, fields_to}
-use Rattle.listing.specs.Prelude.{arith, add-one, ◌≡◌, refl, List, ℕ, ◌+◌, ◌*◌, ◌-◌, ◌≤◌, length, le-ltb, needs}
+use Rattle.std.specs.Prelude.{◌≡◌, ◌+◌, ◌*◌, ◌-◌, ◌≤◌}
+use Rattle.listing.specs.Prelude.{arith, add-one, refl, List, ℕ, length, le-ltb, needs}
 use Rattle.listing.proofs.put_line.Statement.{statement}
 use Rattle.listing.proofs.put_line.Tie as tie
 

@@ -1,4 +1,5 @@
-use Rattle.listing.specs.Prelude.{List, arith, add-one, ◌≡◌, refl, ap, ℕ, ◌+◌, ◌*◌, ◌-◌, ◌/◌, ◌≤◌, length, now, min-le_right, needs}
+use Rattle.std.specs.Prelude.{◌≡◌, ◌+◌, ◌*◌, ◌-◌, ◌/◌, ◌≤◌}
+use Rattle.listing.specs.Prelude.{List, arith, add-one, refl, ap, ℕ, length, now, min-le_right, needs}
 use Rattle.digits.proofs.Places.{nothing, joined}
 use Rattle.listing.proofs.Places.{counts, record_fits}
 use Rattle.digits.specs.Decimal.{Put}

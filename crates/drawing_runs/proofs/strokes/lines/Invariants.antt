@@ -1,4 +1,5 @@
-use Rattle.drawing_runs.specs.Prelude.{List, ◌≡◌, ℕ, ◌+◌, ◌*◌, ◌-◌, ◌≤◌, length}
+use Rattle.std.specs.Prelude.{◌≡◌, ◌+◌, ◌*◌, ◌-◌, ◌≤◌}
+use Rattle.drawing_runs.specs.Prelude.{List, ℕ, length}
 use Rattle.records.specs.declared.Head.{Head}
 use Rattle.rules.specs.declared.Point.{Point}
 use Rattle.drawing_runs.specs.Strokes.{Lines}

@@ -1,4 +1,4 @@
-use Rattle.drawing_runs.specs.Prelude.{◌-◌, ◌≤◌}
+use Rattle.std.specs.Prelude.{◌-◌, ◌≤◌}
 use Rattle.drawing_runs.specs.Strokes.{Moves}
 use Rattle.drawing_runs.proofs.strokes.moves.Given as goal
 

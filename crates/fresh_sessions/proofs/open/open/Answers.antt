@@ -1,4 +1,5 @@
-use Rattle.fresh_sessions.proofs.Prelude.{ℕ, ◌≡◌, ap, List, ne_eqb, eq-eqb}
+use Rattle.std.specs.Prelude.{◌≡◌}
+use Rattle.fresh_sessions.proofs.Prelude.{ℕ, ap, List, ne_eqb, eq-eqb}
 use Rattle.rules.specs.Calls.{number_of, Terms, Opening, open_page, open_as, fresh_state}
 use Rattle.rules.specs.Promises.{Opens, opening_of}
 use Rattle.rules.specs.declared.Opened.{Opened}
