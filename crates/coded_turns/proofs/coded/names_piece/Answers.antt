@@ -1,0 +1,13 @@
+use Rattle.coded_turns.specs.Prelude.{arith, sym, ◌∙◌}
+use Rattle.coded_turns.specs.Walk.{none}
+use Rattle.coded_turns.proofs.coded.names_piece.Goals as goal
+
+pub call_piece-requires : goal.call_piece-requires
+call_piece-requires c =
+    (c.requires.0, c.requires.1, sym c.set_in_use.ensures ∙ c.in-Macro.is, c.requires.2, c.requires.3, c.requires.4)
+
+pub returns-in-Macro : goal.returns-in-Macro
+returns-in-Macro c = let both = c.call_piece.ensures in record { walk = both.0; most = both.1.0; still = both.1.1 }
+
+pub returns : goal.returns
+returns c = record { walk = λ budget d st out few room. none; most = omega arith; still = λ h. c.requires.0 }
