@@ -7,7 +7,7 @@ call_piece-requires c =
     (c.requires.0, c.requires.1, sym c.set_in_use.ensures ∙ c.in-Macro.is, c.requires.2, c.requires.3, c.requires.4)
 
 pub returns-in-Macro : goal.returns-in-Macro
-returns-in-Macro c = let both = c.call_piece.ensures in record { walk = both.0; most = both.1.0; still = both.1.1 }
+returns-in-Macro c = record { walk = c.call_piece.ensures.walk; most = c.call_piece.ensures.most; still = c.call_piece.ensures.still }
 
 pub returns : goal.returns
 returns c = record { walk = λ budget d st out few room. none; most = omega arith; still = λ h. c.requires.0 }
