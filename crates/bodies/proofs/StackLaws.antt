@@ -1,5 +1,6 @@
 -- Laws of the stack of bodies.
-use Rattle.bodies.specs.Prelude.{◌≡◌, refl, sym, ap, ◌∙◌, subst, Bool, true, false, List, [], ◌∷◌, ℕ, zero, suc, ◌+◌, ◌-◌, ◌<◌, ◌≤◌, not-suc-le-zero, sub-one, arith, ltb, ltb-true, ltb-false, get_or}
+use Rattle.std.specs.Prelude.{◌≡◌, ◌∷◌, ◌+◌, ◌-◌, ◌<◌, ◌≤◌}
+use Rattle.bodies.specs.Prelude.{refl, sym, ap, ◌∙◌, subst, Bool, true, false, List, [], ℕ, zero, suc, not-suc-le-zero, sub-one, arith, ltb, ltb-true, ltb-false, get_or}
 use types.Run.{OneOf, miss}
 use denote.Enum.Declared.{tag_of}
 use Rattle.rules.specs.contracts.Action.{the_type as the-action}

@@ -1,5 +1,6 @@
 -- Calls of empty bodies
-use Rattle.bodies.specs.Prelude.{ℕ, ◌+◌, ◌<◌, List, ◌≡◌, get_or}
+use Rattle.std.specs.Prelude.{◌+◌, ◌<◌, ◌≡◌}
+use Rattle.bodies.specs.Prelude.{ℕ, List, get_or}
 use Rattle.rules.specs.Store.{first_of}
 use Rattle.store.specs.Lent.{IsName}
 

@@ -1,5 +1,6 @@
 -- The running bodies as they are lent: the depth, and beside it the cell and the place of each body
-use Rattle.bodies.specs.Prelude.{ℕ, List, ◌≡◌}
+use Rattle.std.specs.Prelude.{◌≡◌}
+use Rattle.bodies.specs.Prelude.{ℕ, List}
 use Rattle.rules.specs.declared.Action.{Action}
 use Rattle.rules.specs.declared.Bodies.{Bodies}
 use Rattle.rules.specs.Step.{bodies_after}

@@ -1,5 +1,6 @@
 -- Walks, and runs of bytes that write no record, over the parts that the code holds
-use Rattle.coded_turns.specs.Prelude.{ℕ, zero, suc, ◌+◌, ◌-◌, ◌≤◌, ◌<◌, add-zero, arith, ◌≡◌, refl, sym, ap, subst, List, [], length, drop, get_or, set, length-drop, ltb, ltb-false}
+use Rattle.std.specs.Prelude.{◌+◌, ◌-◌, ◌≤◌, ◌<◌, ◌≡◌}
+use Rattle.coded_turns.specs.Prelude.{ℕ, zero, suc, add-zero, arith, refl, sym, ap, subst, List, [], length, drop, get_or, set, length-drop, ltb, ltb-false}
 use Rattle.rules.specs.declared.Control.TheVariants.{Ignored, Locks}
 use Rattle.rules.specs.declared.Drawing.{Drawing}
 use Rattle.rules.specs.declared.Element.{Element}

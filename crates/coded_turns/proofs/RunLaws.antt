@@ -1,5 +1,6 @@
 -- Runs of bytes as walks
-use Rattle.coded_turns.specs.Prelude.{ℕ, zero, suc, ◌+◌, ◌-◌, ◌≤◌, ◌<◌, add-zero, add-suc, arith, ◌≡◌, refl, sym, ap, ◌∙◌, subst, Bool, true, false, List, [], ◌∷◌, length, drop, get_or, set, drop-cons, get_or-set_same, set-get_or, ltb, lt-ltb, le-ltb}
+use Rattle.std.specs.Prelude.{◌+◌, ◌-◌, ◌≤◌, ◌<◌, ◌≡◌, ◌∷◌}
+use Rattle.coded_turns.specs.Prelude.{ℕ, zero, suc, add-zero, add-suc, arith, refl, sym, ap, ◌∙◌, subst, Bool, true, false, List, [], length, drop, get_or, set, drop-cons, get_or-set_same, set-get_or, ltb, lt-ltb, le-ltb}
 use Rattle.rules.specs.declared.Action.{Action}
 use Rattle.rules.specs.declared.Action.TheVariants.{Idle as Idle·action, Cancel}
 use Rattle.rules.specs.declared.Bodies.{Bodies}

@@ -1,5 +1,6 @@
 -- A walk: turns of a reading that are taken one after the other, each an accepted step
-use Rattle.coded_turns.specs.Prelude.{ℕ, zero, suc, ◌+◌, ◌-◌, ◌<◌, ◌≤◌, List, ◌≡◌, length, drop, get_or, set, ltb}
+use Rattle.std.specs.Prelude.{◌+◌, ◌-◌, ◌<◌, ◌≤◌, ◌≡◌}
+use Rattle.coded_turns.specs.Prelude.{ℕ, zero, suc, List, length, drop, get_or, set, ltb}
 use Rattle.rules.specs.declared.Drawing.{Drawing}
 use Rattle.rules.specs.Numbers.{room_for_step}
 use Rattle.rules.specs.Bodies.{body_at}

@@ -1,5 +1,6 @@
 -- A definition: what a function answers, from what its calls hand back.
-use Rattle.coding.specs.Prelude.{◌≡◌, refl, Bool, true, false, List, ℕ, ◌<◌, ◌≤◌, lt-ltb, le-ltb, ltb}
+use Rattle.std.specs.Prelude.{◌≡◌, ◌<◌, ◌≤◌}
+use Rattle.coding.specs.Prelude.{refl, Bool, true, false, List, ℕ, lt-ltb, le-ltb, ltb}
 use Rattle.rules.specs.declared.Class.TheVariants.{Column2, Above}
 use Rattle.rules.specs.declared.Definition.{Definition}
 use Rattle.rules.specs.declared.Refusal.{Refusal}

@@ -1,6 +1,7 @@
 -- What the step around the coding layer leans on: only a byte that asks nothing of drawing changes first cells or store, so that a
 -- refusal by drawing has none to undo; and a call's name is the byte, 2/0 to 7/15, so that it has a first cell.
-use Rattle.coding.specs.Prelude.{◌≡◌, refl, Bool, true, false, List, ◌⊎◌, inl, inr, ℕ, ◌≤◌, ltb-false, ltb, eqb}
+use Rattle.std.specs.Prelude.{◌≡◌, ◌⊎◌, ◌≤◌}
+use Rattle.coding.specs.Prelude.{refl, Bool, true, false, List, inl, inr, ℕ, ltb-false, ltb, eqb}
 use Rattle.rules.proofs.Bools.{pick_all, pick_by}
 use Rattle.rules.specs.declared.Action.{Action}
 use Rattle.rules.specs.declared.Action.TheVariants.{Idle, Position}

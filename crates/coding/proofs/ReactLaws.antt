@@ -1,5 +1,6 @@
 -- The reaction by what is waited for.
-use Rattle.coding.specs.Prelude.{◌≡◌, refl, true, List, [], ◌∷◌, ℕ, ◌<◌, ◌≤◌, lt-ltb, le-ltb, leb-true, leb}
+use Rattle.std.specs.Prelude.{◌≡◌, ◌∷◌, ◌<◌, ◌≤◌}
+use Rattle.coding.specs.Prelude.{refl, true, List, [], ℕ, lt-ltb, le-ltb, leb-true, leb}
 use types.Run.{OneOf, miss}
 use denote.Enum.Declared.{tag_of}
 use Rattle.rules.specs.contracts.Waiting.{the_type as the-waiting}

@@ -1,5 +1,6 @@
 -- Runs of the bytes that open and end a definition.
-use Rattle.coding_runs.specs.Prelude.{◌≡◌, refl, ap, ◌∙◌, List, ℕ, ◌+◌, arith, get_or}
+use Rattle.std.specs.Prelude.{◌≡◌, ◌+◌}
+use Rattle.coding_runs.specs.Prelude.{refl, ap, ◌∙◌, List, ℕ, arith, get_or}
 use Rattle.rules.specs.declared.Action.TheVariants.{Idle as Idle·action}
 use Rattle.rules.specs.declared.Coding.{Coding}
 use Rattle.rules.specs.declared.Definition.{Definition}

@@ -1,5 +1,6 @@
 -- Runs of idle bytes, from what the calls hand back.
-use Rattle.coding_runs.specs.Prelude.{◌≡◌, refl, sym, ap, ◌∙◌, true, false, List, [], ◌∷◌, ◌⊎◌, inl, inr, ℕ, zero, suc, ◌+◌, ◌≤◌, arith, le-ltb, ne_eqb, get_or}
+use Rattle.std.specs.Prelude.{◌≡◌, ◌∷◌, ◌⊎◌, ◌+◌, ◌≤◌}
+use Rattle.coding_runs.specs.Prelude.{refl, sym, ap, ◌∙◌, true, false, List, [], inl, inr, ℕ, zero, suc, arith, le-ltb, ne_eqb, get_or}
 use types.Run.{OneOf, miss}
 use denote.Enum.Declared.{tag_of}
 use Rattle.rules.specs.contracts.Action.{the_type as the-action}

@@ -1,5 +1,6 @@
 -- Idle bytes: those that ask nothing of drawing and call no macro, one after the other
-use Rattle.coding_runs.specs.Prelude.{ℕ, Bool, true, false, List, ◌≡◌}
+use Rattle.std.specs.Prelude.{◌≡◌}
+use Rattle.coding_runs.specs.Prelude.{ℕ, Bool, true, false, List}
 use Rattle.rules.specs.declared.Action.{Action}
 use Rattle.rules.specs.declared.Action.TheVariants.{Idle as Idle·action, Close, Control, Cancel, Format, Reset, Position, Character, Opcode, Data}
 use Rattle.rules.specs.declared.Coding.{Coding}

@@ -1,5 +1,6 @@
 -- Runs put together.
-use Rattle.command_runs.proofs.Prelude.{ℕ, zero, suc, ◌+◌, ◌-◌, ◌≤◌, ◌<◌, add-one, arith, ◌≡◌, refl, sym, ap, ◌∙◌, subst, Bool, true, false, ◌||◌, List, length, get_or, lt-ltb, le-ltb}
+use Rattle.std.specs.Prelude.{◌+◌, ◌-◌, ◌≤◌, ◌<◌, ◌≡◌, ◌||◌}
+use Rattle.command_runs.proofs.Prelude.{ℕ, zero, suc, add-one, arith, refl, sym, ap, ◌∙◌, subst, Bool, true, false, List, length, get_or, lt-ltb, le-ltb}
 use Rattle.rules.specs.declared.Action.{Action}
 use Rattle.rules.specs.declared.Action.TheVariants.{Control, Opcode, Data}
 use Rattle.rules.specs.declared.Command.{Command}

@@ -1,5 +1,6 @@
 -- Points that come whole, in a run.
-use Rattle.command_runs.proofs.Prelude.{ℕ, suc, ◌+◌, ◌-◌, ◌≤◌, arith, ◌≡◌, refl, sym, ap, ◌∙◌, subst, Bool, true, List, length, take, drop}
+use Rattle.std.specs.Prelude.{◌+◌, ◌-◌, ◌≤◌, ◌≡◌}
+use Rattle.command_runs.proofs.Prelude.{ℕ, suc, arith, refl, sym, ap, ◌∙◌, subst, Bool, true, List, length, take, drop}
 use Rattle.rules.specs.declared.Command.{Command}
 use Rattle.rules.specs.declared.Domain.{Domain}
 use Rattle.rules.specs.declared.Drawing.{Drawing}

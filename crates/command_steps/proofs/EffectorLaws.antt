@@ -1,5 +1,6 @@
 -- A format effector that closes a command.
-use Rattle.command_steps.specs.Prelude.{ℕ, ◌+◌, ◌≤◌, add-zero, ◌≡◌, refl, sym, ap, ◌∙◌, subst, Bool, true, false, ◌||◌, List, [], ◌∷◌, length, get_or, lt-ltb}
+use Rattle.std.specs.Prelude.{◌+◌, ◌≤◌, ◌≡◌, ◌||◌, ◌∷◌}
+use Rattle.command_steps.specs.Prelude.{ℕ, add-zero, refl, sym, ap, ◌∙◌, subst, Bool, true, false, List, [], length, get_or, lt-ltb}
 use Rattle.rules.specs.declared.Action.{Action}
 use Rattle.rules.specs.declared.Action.TheVariants.{Control, Format, Opcode}
 use Rattle.rules.specs.declared.Command.{Command}

@@ -1,5 +1,6 @@
 -- Commands closed and opened in a run, with no operand begun.
-use Rattle.command_steps.specs.Prelude.{ℕ, ◌+◌, ◌≤◌, ◌<◌, ◌≡◌, refl, sym, ap, ◌∙◌, subst, Bool, true, false, List, length, lt-ltb, le-ltb, suc, add-one, get_or}
+use Rattle.std.specs.Prelude.{◌+◌, ◌≤◌, ◌<◌, ◌≡◌}
+use Rattle.command_steps.specs.Prelude.{ℕ, refl, sym, ap, ◌∙◌, subst, Bool, true, false, List, length, lt-ltb, le-ltb, suc, add-one, get_or}
 use Rattle.rules.specs.declared.Command.{Command}
 use Rattle.rules.specs.declared.Drawing.{Drawing}
 use Rattle.rules.specs.declared.Look.{Look}

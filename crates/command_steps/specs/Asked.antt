@@ -1,5 +1,6 @@
 -- What a byte of the PDI set below 4/0 asks of drawing
-use Rattle.command_steps.specs.Prelude.{ℕ, List, ◌≡◌, ltb}
+use Rattle.std.specs.Prelude.{◌≡◌}
+use Rattle.command_steps.specs.Prelude.{ℕ, List, ltb}
 use Rattle.rules.specs.declared.Action.{Action}
 use Rattle.rules.specs.declared.Action.TheVariants.{Control, Opcode}
 use Rattle.rules.specs.declared.Command.{Command}

@@ -1,5 +1,6 @@
 -- Closing, carried out.
-use Rattle.commands.proofs.Prelude.{ℕ, ◌+◌, ◌≤◌, zero-le, arith, ◌≡◌, refl, sym, ap, ◌∙◌, Bool, true, false, List, [], ◌∷◌, length, eqb, ltb, eq-eqb, ne_eqb}
+use Rattle.std.specs.Prelude.{◌+◌, ◌≤◌, ◌≡◌, ◌∷◌}
+use Rattle.commands.proofs.Prelude.{ℕ, zero-le, arith, refl, sym, ap, ◌∙◌, Bool, true, false, List, [], length, eqb, ltb, eq-eqb, ne_eqb}
 use types.Run.{OneOf, miss}
 use denote.Enum.Declared.{tag_of}
 use Rattle.rules.specs.contracts.Role.{the_type as the-role}

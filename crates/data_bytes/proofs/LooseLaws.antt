@@ -1,5 +1,6 @@
 -- Data that makes no operand.
-use Rattle.data_bytes.proofs.Prelude.{ℕ, ◌≡◌, refl, sym, ◌∙◌, Bool, true, false, List, [], ◌∷◌}
+use Rattle.std.specs.Prelude.{◌≡◌, ◌∷◌}
+use Rattle.data_bytes.proofs.Prelude.{ℕ, refl, sym, ◌∙◌, Bool, true, false, List, []}
 use types.Run.{OneOf, miss}
 use denote.Enum.Declared.{tag_of}
 use Rattle.rules.specs.contracts.Role.{the_type as the-role}

@@ -1,5 +1,6 @@
 -- Data bytes and the operands they make, carried out.
-use Rattle.data_bytes.proofs.Prelude.{ℕ, suc, ◌≤◌, ◌<◌, ◌≡◌, sym, ap, ◌∙◌, true, false, List, [], length, ltb, eq-eqb, ne_eqb, lt-ltb, le-ltb}
+use Rattle.std.specs.Prelude.{◌≤◌, ◌<◌, ◌≡◌}
+use Rattle.data_bytes.proofs.Prelude.{ℕ, suc, sym, ap, ◌∙◌, true, false, List, [], length, ltb, eq-eqb, ne_eqb, lt-ltb, le-ltb}
 use Rattle.rules.specs.declared.Drawing.{Drawing}
 use Rattle.rules.specs.declared.Pen.{Pen}
 use Rattle.rules.specs.declared.Row.{Row}

@@ -1,5 +1,6 @@
 -- Laws of ESC and another byte: the test made first tells how both end.
-use Rattle.definitions.specs.Prelude.{◌≡◌, refl, sym, ap, ◌∙◌, Bool, true, false, List, ℕ, suc, ◌<◌, ◌≤◌, arith, eqb-true, eqb-false, ltb-true, ltb-false, ne_eqb, eqb, ltb}
+use Rattle.std.specs.Prelude.{◌≡◌, ◌<◌, ◌≤◌}
+use Rattle.definitions.specs.Prelude.{refl, sym, ap, ◌∙◌, Bool, true, false, List, ℕ, suc, arith, eqb-true, eqb-false, ltb-true, ltb-false, ne_eqb, eqb, ltb}
 use Rattle.rules.specs.declared.Definition.{Definition}
 use Rattle.rules.specs.declared.Refusal.{Refusal}
 use Rattle.rules.specs.declared.Refusal.TheVariants.{StoreFull, OutOfRange}

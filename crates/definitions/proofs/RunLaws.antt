@@ -1,5 +1,6 @@
 -- Laws of runs: bytes laid into a cell whose count is then set are bytes stored one after the other.
-use Rattle.definitions.specs.Prelude.{◌≡◌, refl, ap, ◌∙◌, true, List, [], ◌∷◌, ℕ, zero, suc, ◌+◌, ◌*◌, ◌<◌, ◌≤◌, arith, length, get_or, set, set-get_or}
+use Rattle.std.specs.Prelude.{◌≡◌, ◌∷◌, ◌+◌, ◌*◌, ◌<◌, ◌≤◌}
+use Rattle.definitions.specs.Prelude.{refl, ap, ◌∙◌, true, List, [], ℕ, zero, suc, arith, length, get_or, set, set-get_or}
 use Rattle.rules.specs.Store.{count_of, set_count, good_count, set_body_byte, Filling, Stored, store_in_last, store_byte}
 use Rattle.store.specs.Lent.{Sized}
 use Rattle.store.specs.Each.{none as Each-none, more as each_more}

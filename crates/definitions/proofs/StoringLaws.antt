@@ -1,5 +1,6 @@
 -- Laws of storing a byte: the rule by its cases, and from what the calls hand back.
-use Rattle.definitions.specs.Prelude.{◌≡◌, sym, ap, ◌∙◌, true, false, List, ℕ, ◌+◌, ◌<◌, ◌≤◌, add-one, eq-eqb, ne_eqb, lt-ltb, le-ltb, eqb}
+use Rattle.std.specs.Prelude.{◌≡◌, ◌+◌, ◌<◌, ◌≤◌}
+use Rattle.definitions.specs.Prelude.{sym, ap, ◌∙◌, true, false, List, ℕ, add-one, eq-eqb, ne_eqb, lt-ltb, le-ltb, eqb}
 use Rattle.rules.specs.declared.Definition.{Definition}
 use Rattle.rules.specs.declared.Refusal.{Refusal}
 use Rattle.rules.specs.declared.Refusal.TheVariants.{StoreFull, OutOfRange}

@@ -1,5 +1,6 @@
 -- Whether a new cell can be taken, and whether two bytes can be stored after the last cell
-use Rattle.definitions.specs.Prelude.{ℕ, ◌-◌, List, ltb, eqb}
+use Rattle.std.specs.Prelude.{◌-◌}
+use Rattle.definitions.specs.Prelude.{ℕ, List, ltb, eqb}
 use Rattle.rules.specs.declared.Refusal.TheVariants.{StoreFull, OutOfRange}
 use Rattle.rules.specs.Numbers.{most_bytes}
 use Rattle.rules.specs.Choice.{pick}

@@ -1,5 +1,6 @@
 -- An answer to storing a byte, with the first cells and the store left, as the rule has it
-use Rattle.definitions.specs.Prelude.{ℕ, List, ◌≡◌}
+use Rattle.std.specs.Prelude.{◌≡◌}
+use Rattle.definitions.specs.Prelude.{ℕ, List}
 use Rattle.rules.specs.declared.Definition.{Definition}
 use Rattle.rules.specs.Store.{Filling, Storing, NotStored, Stored}
 use Rattle.definitions.specs.declared.appending.StoreAnswer.{StoreAnswer}

@@ -1,5 +1,6 @@
 -- One feed call more after a list of them, and what the list then comes to
-use Rattle.demands.specs.Prelude.{ℕ, zero, suc, ◌+◌, ◌-◌, ◌≤◌, ◌<◌, min, add-zero, zero-min, min-zero, suc-min-suc, add-one, arith, ◌≡◌, refl, sym, ap, ap₂, ◌∙◌, subst, List, [], ◌∷◌, ◌++◌, append_assoc, length, get_or, take, drop, length-append, length-drop, length-take, take-append-drop, drop_of_length-le, take-append_seam, drop-append_seam, drop-append-le, drop-append-add, drop-drop, drop-cons, get_or-drop, take-add, length-take-le}
+use Rattle.std.specs.Prelude.{◌+◌, ◌-◌, ◌≤◌, ◌<◌, ◌≡◌, ◌∷◌, ◌++◌}
+use Rattle.demands.specs.Prelude.{ℕ, zero, suc, min, add-zero, zero-min, min-zero, suc-min-suc, add-one, arith, refl, sym, ap, ap₂, ◌∙◌, subst, List, [], append_assoc, length, get_or, take, drop, length-append, length-drop, length-take, take-append-drop, drop_of_length-le, take-append_seam, drop-append_seam, drop-append-le, drop-append-add, drop-drop, drop-cons, get_or-drop, take-add, length-take-le}
 use Rattle.rules.specs.declared.Answer.TheVariants.{Done, Full}
 use Rattle.rules.specs.Step.{State, remove_spent, NothingLeft, seek, Some, state_lent}
 use Rattle.rules.specs.Reading.{Reading, Room, Steps, rests, read_to, undivided}

@@ -1,5 +1,6 @@
 -- A page opened, read by feed calls and ended
-use Rattle.demands.specs.Prelude.{ℕ, ◌+◌, ◌-◌, ◌≤◌, arith, ◌≡◌, refl, sym, ap, ◌∙◌, subst, Bool, true, false, ◌&&◌, List, ◌++◌, append-nil, length, take, drop, length-take, length-drop, drop_of_length-le, take-append_seam, drop-append_seam, take-append-add, take_all, ltb, eqb, eq-eqb}
+use Rattle.std.specs.Prelude.{◌+◌, ◌-◌, ◌≤◌, ◌≡◌, ◌&&◌, ◌++◌}
+use Rattle.demands.specs.Prelude.{ℕ, arith, refl, sym, ap, ◌∙◌, subst, Bool, true, false, List, append-nil, length, take, drop, length-take, length-drop, drop_of_length-le, take-append_seam, drop-append_seam, take-append-add, take_all, ltb, eqb, eq-eqb}
 use borrow.Rule.Slice.PartMut.{put_mid}
 use Rattle.rules.specs.declared.Refusal.TheVariants.{StoreSize}
 use Rattle.rules.specs.declared.Answer.{Answer}

@@ -1,5 +1,6 @@
 -- A page cut into feed calls: what one call more comes to, and what the calls come to together
-use Rattle.demands.specs.Prelude.{ℕ, ◌+◌, ◌-◌, ◌≤◌, min, ◌≡◌, List, [], ◌∷◌, ◌++◌, length, get_or, take, drop}
+use Rattle.std.specs.Prelude.{◌+◌, ◌-◌, ◌≤◌, ◌≡◌, ◌∷◌, ◌++◌}
+use Rattle.demands.specs.Prelude.{ℕ, min, List, [], length, get_or, take, drop}
 use Rattle.rules.specs.declared.Answer.TheVariants.{Done, Full}
 use Rattle.rules.specs.Step.{State, remove_spent, NothingLeft, seek}
 use Rattle.rules.specs.Reading.{Steps, rests, read_to, undivided}

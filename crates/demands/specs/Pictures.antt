@@ -1,5 +1,6 @@
 -- A page opened, read by feed calls and ended: the calls, and the picture that they draw
-use Rattle.demands.specs.Prelude.{ℕ, ◌+◌, ◌≤◌, ◌≡◌, List, ◌++◌, length, take, drop}
+use Rattle.std.specs.Prelude.{◌+◌, ◌≤◌, ◌≡◌, ◌++◌}
+use Rattle.demands.specs.Prelude.{ℕ, List, length, take, drop}
 use Rattle.rules.specs.declared.Answer.{Answer}
 use Rattle.rules.specs.declared.Answer.TheVariants.{Done, Full, Refused}
 use Rattle.rules.specs.Numbers.{store_size}

@@ -1,5 +1,6 @@
 -- Numbers in decimal
-use Rattle.digits.specs.Prelude.{◌≡◌, refl, ap, ◌∙◌, Bool, true, false, List, [], ◌∷◌, ◌++◌, append_assoc, ℕ, zero, suc, ◌+◌, ◌/◌, ◌%◌, ◌^◌, ◌≤◌, ◌<◌, pow-suc, div-lt_iff_lt-mul, arith, lt-ltb, le-ltb, ltb-false, length, length-append, ltb}
+use Rattle.std.specs.Prelude.{◌≡◌, ◌∷◌, ◌++◌, ◌+◌, ◌/◌, ◌%◌, ◌^◌, ◌≤◌, ◌<◌}
+use Rattle.digits.specs.Prelude.{refl, ap, ◌∙◌, Bool, true, false, List, [], append_assoc, ℕ, zero, suc, pow-suc, div-lt_iff_lt-mul, arith, lt-ltb, le-ltb, ltb-false, length, length-append, ltb}
 use Rattle.rules.specs.Choice.{pick}
 use Rattle.digits.specs.Decimal.{decimal_to, decimal, two_digits, four_digits}
 

@@ -1,5 +1,6 @@
 -- Text put at a place
-use Rattle.digits.specs.Prelude.{refl, sym, ap, ◌∙◌, List, [], ◌∷◌, ◌++◌, ℕ, ◌+◌, ◌≤◌, ◌<◌, arith, length, set, length-append}
+use Rattle.std.specs.Prelude.{◌∷◌, ◌++◌, ◌+◌, ◌≤◌, ◌<◌}
+use Rattle.digits.specs.Prelude.{refl, sym, ap, ◌∙◌, List, [], ℕ, arith, length, set, length-append}
 use Rattle.records.specs.Bytes.{overwrite}
 use Rattle.records.proofs.Writes.{stored, then, overwrite_none}
 use Rattle.digits.specs.Decimal.{Put}

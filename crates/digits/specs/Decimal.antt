@@ -1,5 +1,6 @@
 -- Numbers as text
-use Rattle.digits.specs.Prelude.{ℕ, zero, suc, ◌+◌, ◌-◌, ◌/◌, ◌%◌, ◌≡◌, List, [], ◌∷◌, ◌++◌, length, ltb}
+use Rattle.std.specs.Prelude.{◌+◌, ◌-◌, ◌/◌, ◌%◌, ◌≡◌, ◌∷◌, ◌++◌}
+use Rattle.digits.specs.Prelude.{ℕ, zero, suc, List, [], length, ltb}
 use Rattle.rules.specs.Choice.{pick}
 use Rattle.records.specs.Bytes.{overwrite}
 

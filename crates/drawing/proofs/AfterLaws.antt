@@ -1,5 +1,6 @@
 -- What follows closing, carried out.
-use Rattle.drawing.proofs.Prelude.{ℕ, ◌+◌, ◌≡◌, refl, sym, ap, ◌∙◌, false, List, [], ◌∷◌}
+use Rattle.std.specs.Prelude.{◌+◌, ◌≡◌, ◌∷◌}
+use Rattle.drawing.proofs.Prelude.{ℕ, refl, sym, ap, ◌∙◌, false, List, []}
 use mathlib.Core.List.{append-nil}
 use types.Run.{OneOf, miss}
 use denote.Enum.Declared.{tag_of}

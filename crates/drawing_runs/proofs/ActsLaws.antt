@@ -1,5 +1,6 @@
 -- Bytes that ask an action of drawing.
-use Rattle.drawing_runs.specs.Prelude.{ℕ, ◌≤◌, ◌<◌, arith, ◌≡◌, refl, ap, ◌∙◌, List, get_or, lt-ltb, le-ltb}
+use Rattle.std.specs.Prelude.{◌≤◌, ◌<◌, ◌≡◌}
+use Rattle.drawing_runs.specs.Prelude.{ℕ, arith, refl, ap, ◌∙◌, List, get_or, lt-ltb, le-ltb}
 use Rattle.rules.specs.declared.Action.{Action}
 use Rattle.rules.specs.declared.Action.TheVariants.{Control as Control·action, Format, Opcode, Data}
 use Rattle.rules.specs.declared.Bodies.{Bodies}

@@ -1,5 +1,6 @@
 -- Runs over operands that come whole.
-use Rattle.drawing_runs.specs.Prelude.{ℕ, zero, suc, ◌+◌, ◌≤◌, ◌<◌, add_assoc, add-suc, add-zero, arith, ◌≡◌, refl, sym, ap, ◌∙◌, subst, Bool, true, false, List, [], ◌∷◌, ◌++◌, append-nil, length, get_or, set, take, drop, length-set, length-drop, take-suc, take-suc-set, get_or-drop, get_or-take, length-take-le, lt-ltb, le-ltb, ne_eqb}
+use Rattle.std.specs.Prelude.{◌+◌, ◌≤◌, ◌<◌, ◌≡◌, ◌∷◌, ◌++◌}
+use Rattle.drawing_runs.specs.Prelude.{ℕ, zero, suc, add_assoc, add-suc, add-zero, arith, refl, sym, ap, ◌∙◌, subst, Bool, true, false, List, [], append-nil, length, get_or, set, take, drop, length-set, length-drop, take-suc, take-suc-set, get_or-drop, get_or-take, length-take-le, lt-ltb, le-ltb, ne_eqb}
 use Rattle.rules.specs.declared.Action.TheVariants.{Data}
 use Rattle.rules.specs.declared.Drawing.{Drawing}
 use Rattle.rules.specs.declared.Operand.{Operand}

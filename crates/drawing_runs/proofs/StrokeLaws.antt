@@ -1,5 +1,6 @@
 -- Runs of POINT SET and LINE to points of three bytes in two dimensions.
-use Rattle.drawing_runs.specs.Prelude.{ℕ, zero, suc, ◌+◌, ◌*◌, ◌-◌, ◌≤◌, arith, ◌≡◌, refl, sym, ap, ◌∙◌, subst, Bool, true, false, not, List, [], ◌∷◌, ◌++◌, length, take, drop, eqb, ◌&&◌}
+use Rattle.std.specs.Prelude.{◌+◌, ◌*◌, ◌-◌, ◌≤◌, ◌≡◌, ◌∷◌, ◌++◌, ◌&&◌}
+use Rattle.drawing_runs.specs.Prelude.{ℕ, zero, suc, arith, refl, sym, ap, ◌∙◌, subst, Bool, true, false, not, List, [], length, take, drop, eqb}
 use Rattle.rules.specs.declared.Command.{Command}
 use Rattle.rules.specs.declared.Due.TheVariants.{First}
 use Rattle.rules.specs.declared.Drawing.{Drawing}

@@ -1,5 +1,6 @@
 -- Runs: bytes of one set, acted on one after the other
-use Rattle.drawing_runs.specs.Prelude.{ℕ, zero, suc, ◌+◌, ◌≤◌, false, List, ◌≡◌, length, get_or}
+use Rattle.std.specs.Prelude.{◌+◌, ◌≤◌, ◌≡◌}
+use Rattle.drawing_runs.specs.Prelude.{ℕ, zero, suc, false, List, length, get_or}
 use Rattle.rules.specs.declared.Action.{Action}
 use Rattle.rules.specs.declared.Bodies.{Bodies}
 use Rattle.rules.specs.declared.Coding.{Coding}

@@ -1,5 +1,6 @@
 -- Operands of three bytes in two dimensions, of a command that goes to each point read
-use Rattle.drawing_runs.specs.Prelude.{ℕ, zero, suc, ◌+◌, ◌≤◌, Bool, true, false, List, ◌≡◌, length}
+use Rattle.std.specs.Prelude.{◌+◌, ◌≤◌, ◌≡◌}
+use Rattle.drawing_runs.specs.Prelude.{ℕ, zero, suc, Bool, true, false, List, length}
 use Rattle.rules.specs.declared.Command.{Command}
 use Rattle.rules.specs.declared.Due.TheVariants.{First}
 use Rattle.rules.specs.declared.Look.{Look}

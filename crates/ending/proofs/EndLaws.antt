@@ -1,5 +1,6 @@
 -- Closing carried out, and what end hands over
-use Rattle.ending.specs.Prelude.{ℕ, ◌≤◌, ◌<◌, zero-add, ◌≡◌, refl, sym, ap, ◌∙◌, true, false, ◌&&◌, and-false, List, length, ltb, ne_eqb, lt-ltb, le-ltb}
+use Rattle.std.specs.Prelude.{◌≤◌, ◌<◌, ◌≡◌, ◌&&◌}
+use Rattle.ending.specs.Prelude.{ℕ, zero-add, sym, ap, ◌∙◌, true, false, and-false, List, length, ltb, ne_eqb, lt-ltb, le-ltb}
 use Rattle.rules.specs.declared.Action.TheVariants.{Close}
 use Rattle.rules.specs.declared.Refusal.{Refusal}
 use Rattle.rules.specs.declared.Refusal.TheVariants.{TooManyVertices, EndInside, BodyBytesLeft}

@@ -1,5 +1,6 @@
 -- Outcomes carried out
-use Rattle.figures.specs.Prelude.{◌≡◌, refl, sym, ap, ◌∙◌, true, false, List, [], ◌∷◌, ◌++◌, append-nil, ℕ, ◌+◌, ◌*◌, ◌≤◌, add-zero, add_assoc, arith, length, length-append}
+use Rattle.std.specs.Prelude.{◌≡◌, ◌∷◌, ◌++◌, ◌+◌, ◌*◌, ◌≤◌}
+use Rattle.figures.specs.Prelude.{refl, sym, ap, ◌∙◌, true, false, List, [], append-nil, ℕ, add-zero, add_assoc, arith, length, length-append}
 use Rattle.rules.specs.declared.Drawing.{Drawing}
 use Rattle.rules.specs.declared.Record.{Record}
 use Rattle.rules.specs.Record.{bytes_of, bytes_of_all}

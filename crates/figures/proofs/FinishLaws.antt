@@ -1,5 +1,6 @@
 -- Figures that finish commands, as the rules draw them.
-use Rattle.figures.specs.Prelude.{ℕ, ◌≤◌, ◌<◌, ◌≡◌, refl, ◌∙◌, Bool, true, false, List, [], ◌∷◌, lt-ltb, le-ltb}
+use Rattle.std.specs.Prelude.{◌≤◌, ◌<◌, ◌≡◌, ◌∷◌}
+use Rattle.figures.specs.Prelude.{ℕ, refl, ◌∙◌, Bool, true, false, List, [], lt-ltb, le-ltb}
 use types.Run.{OneOf, miss}
 use denote.Enum.Declared.{tag_of}
 use Rattle.rules.specs.contracts.Role.{the_type as the-role}

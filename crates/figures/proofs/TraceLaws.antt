@@ -1,5 +1,6 @@
 -- Figures of points, as the rules draw them.
-use Rattle.figures.specs.Prelude.{ℕ, suc, ◌+◌, ◌<◌, ◌≡◌, refl, sym, ap, Bool, true, false, List, [], ◌∷◌, ◌++◌, set, eq-eqb, ne_eqb, ltb-true}
+use Rattle.std.specs.Prelude.{◌+◌, ◌<◌, ◌≡◌, ◌∷◌, ◌++◌}
+use Rattle.figures.specs.Prelude.{ℕ, suc, refl, sym, ap, Bool, true, false, List, [], set, eq-eqb, ne_eqb, ltb-true}
 use types.Run.{OneOf, miss}
 use denote.Enum.Declared.{tag_of}
 use Rattle.rules.specs.contracts.Role.{the_type as the-role}

@@ -1,5 +1,6 @@
 -- An outcome of the drawing rules carried out on an output
-use Rattle.figures.specs.Prelude.{ℕ, ◌+◌, Bool, true, false, List, ◌≡◌, length}
+use Rattle.std.specs.Prelude.{◌+◌, ◌≡◌}
+use Rattle.figures.specs.Prelude.{ℕ, Bool, true, false, List, length}
 use Rattle.rules.specs.declared.Pen.{Pen}
 use Rattle.rules.specs.declared.Command.{Command}
 use Rattle.rules.specs.declared.Look.{Look}

@@ -1,5 +1,6 @@
 -- Runs of characters
-use Rattle.line_runs.specs.Prelude.{◌≡◌, refl, sym, ap, ◌∙◌, subst, Bool, true, false, List, [], ◌∷◌, ◌++◌, ℕ, zero, suc, ◌+◌, ◌*◌, ◌-◌, ◌%◌, ◌^◌, ◌<◌, ◌≤◌, add-zero, add-one, arith, length, get_or, set, ltb, ltb-true, ltb-false, eqb, eqb-true, eqb-false, ne_eqb}
+use Rattle.std.specs.Prelude.{◌≡◌, ◌∷◌, ◌++◌, ◌+◌, ◌*◌, ◌-◌, ◌%◌, ◌^◌, ◌<◌, ◌≤◌}
+use Rattle.line_runs.specs.Prelude.{refl, sym, ap, ◌∙◌, subst, Bool, true, false, List, [], ℕ, zero, suc, add-zero, add-one, arith, length, get_or, set, ltb, ltb-true, ltb-false, eqb, eqb-true, eqb-false, ne_eqb}
 use Rattle.rules.specs.declared.Action.{Action}
 use Rattle.rules.specs.declared.Action.TheVariants.{Character, Format}
 use Rattle.rules.specs.declared.Command.{Command}

@@ -1,5 +1,6 @@
 -- Runs of characters
-use Rattle.line_runs.specs.Prelude.{ℕ, zero, suc, ◌+◌, ◌*◌, ◌<◌, ◌≤◌, ◌≡◌, Bool, true, false, List, [], length, get_or, ◌≢◌}
+use Rattle.std.specs.Prelude.{◌+◌, ◌*◌, ◌<◌, ◌≤◌, ◌≡◌, ◌≢◌}
+use Rattle.line_runs.specs.Prelude.{ℕ, zero, suc, Bool, true, false, List, [], length, get_or}
 use Rattle.rules.specs.declared.Command.{Command}
 use Rattle.rules.specs.declared.Control.TheVariants.{Ignored, Formats}
 use Rattle.rules.specs.declared.Effector.{Effector}

@@ -1,5 +1,6 @@
 -- Text put at a place
-use Rattle.listing.specs.Prelude.{◌≡◌, sym, List, ◌++◌, ℕ, suc, ◌+◌, ◌*◌, ◌-◌, ◌/◌, ◌≤◌, ◌<◌, min, min-le_right, le-div_iff_mul-le, arith, length, take, drop, drop-drop, length-take-le}
+use Rattle.std.specs.Prelude.{◌≡◌, ◌++◌, ◌+◌, ◌*◌, ◌-◌, ◌/◌, ◌≤◌, ◌<◌}
+use Rattle.listing.specs.Prelude.{sym, List, ℕ, suc, min, min-le_right, le-div_iff_mul-le, arith, length, take, drop, drop-drop, length-take-le}
 use Rattle.io.specs.Counts.{IsPrefixLen}
 use Rattle.records.specs.Bytes.{overwrite}
 

@@ -1,5 +1,6 @@
 -- Records as lines of text
-use Rattle.listing.specs.Prelude.{ℕ, zero, suc, ◌+◌, ◌*◌, ◌-◌, List, [], ◌∷◌, ◌++◌, get_or, take, drop, ltb}
+use Rattle.std.specs.Prelude.{◌+◌, ◌*◌, ◌-◌, ◌∷◌, ◌++◌}
+use Rattle.listing.specs.Prelude.{ℕ, zero, suc, List, [], get_or, take, drop, ltb}
 use Rattle.rules.specs.Choice.{pick}
 use Rattle.digits.specs.Decimal.{decimal, signed_decimal}
 

@@ -1,5 +1,6 @@
 -- The steps of the code that moves the cursor, put together to the rules
-use Rattle.moves.specs.Prelude.{List, [], ◌∷◌, ℕ, ◌≡◌, refl, sym, ap, ◌∙◌, Bool, true, false}
+use Rattle.std.specs.Prelude.{◌∷◌, ◌≡◌}
+use Rattle.moves.specs.Prelude.{List, [], ℕ, refl, sym, ap, ◌∙◌, Bool, true, false}
 use types.Run.{OneOf, miss}
 use denote.Enum.Declared.{tag_of}
 use Rattle.rules.specs.contracts.Repertoire.{the_type as the-repertoire}

@@ -1,5 +1,5 @@
 -- What an advance leaves of a text
-use Rattle.moves.specs.Prelude.{◌≡◌}
+use Rattle.std.specs.Prelude.{◌≡◌}
 use Rattle.rules.specs.declared.Coordinate.{Coordinate}
 use Rattle.rules.specs.declared.FieldBox.{FieldBox}
 use Rattle.rules.specs.declared.Operand.{Operand}

@@ -1,5 +1,6 @@
 -- An operand's point byte by byte, and the parts of its bytes that addresses, colours and lengths are
-use Rattle.operands.specs.Prelude.{◌≡◌, refl, sym, ◌∙◌, Bool, true, false, List, [], ◌∷◌, ◌++◌, append-nil, ℕ, zero, suc, ◌+◌, ◌*◌, ◌-◌, ◌/◌, ◌%◌, ◌^◌, ◌<◌, ◌≤◌, pow_mono, ap, add-zero, div-one, mod-eq_of_lt, add-one, arith, eqb, length, get_or, take, replicate, take-suc, length-take-le}
+use Rattle.std.specs.Prelude.{◌≡◌, ◌∷◌, ◌++◌, ◌+◌, ◌*◌, ◌-◌, ◌/◌, ◌%◌, ◌^◌, ◌<◌, ◌≤◌}
+use Rattle.operands.specs.Prelude.{refl, sym, ◌∙◌, Bool, true, false, List, [], append-nil, ℕ, zero, suc, pow_mono, ap, add-zero, div-one, mod-eq_of_lt, add-one, arith, eqb, length, get_or, take, replicate, take-suc, length-take-le}
 use Rattle.rules.specs.declared.Point.{Point}
 use Rattle.rules.specs.Operands.{bit, x_bits, y_bits, green, red, blue, green_bits, red_bits, blue_bits, bits_of, from_top, point, address, wrapped_sum}
 use Rattle.rules.specs.Drawing.{domain_of}

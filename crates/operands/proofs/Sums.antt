@@ -1,5 +1,6 @@
 -- The code's test on patterns is the rule's test on signed numbers, by the signs of the summands; and a sum in range is exact
-use Rattle.operands.specs.Prelude.{◌≡◌, refl, sym, ap, ◌∙◌, Bool, true, false, not, cond, ◌&&◌, ℕ, suc, ◌+◌, ◌-◌, ◌/◌, ◌^◌, ◌≤◌, ◌<◌, arith, lt-ltb, le-ltb, le-leb, lt-leb, ltb-true, ltb-false, leb-true, leb-false, ltb, leb, eqb, pos, negsuc, sub_ℕ, ◌+ℤ◌, +ℤ_comm}
+use Rattle.std.specs.Prelude.{◌≡◌, ◌&&◌, ◌+◌, ◌-◌, ◌/◌, ◌^◌, ◌≤◌, ◌<◌, ◌+ℤ◌}
+use Rattle.operands.specs.Prelude.{refl, sym, ap, ◌∙◌, Bool, true, false, not, cond, ℕ, suc, arith, lt-ltb, le-ltb, le-leb, lt-leb, ltb-true, ltb-false, leb-true, leb-false, ltb, leb, eqb, pos, negsuc, sub_ℕ, +ℤ_comm}
 use lib.Bits.{bit_and, bit_xor, and_shr, xor_shr}
 use Rattle.std.proofs.Common.{ap₂}
 use Rattle.rules.specs.Operands.{signed, in_range, wrapped_sum, leaves_range}

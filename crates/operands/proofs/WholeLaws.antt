@@ -1,5 +1,6 @@
 -- Operands whose bytes have all come
-use Rattle.operands.specs.Prelude.{◌≡◌, refl, sym, ap, ◌∙◌, Bool, true, false, not, ◌&&◌, List, [], ◌∷◌, ◌++◌, ℕ, zero, suc, ◌+◌, ◌*◌, ◌/◌, ◌%◌, ◌≤◌, ◌<◌, le_of_suc-le-suc, not-suc-le-zero, add-one, arith, leb, eqb, length, get_or, take, drop, length-drop, take-suc, drop-cons, get_or-drop, length-take-le, get_or-take, leb-true, leb-false, eq-eqb, ne_eqb, eqb-true, not-true}
+use Rattle.std.specs.Prelude.{◌≡◌, ◌&&◌, ◌∷◌, ◌++◌, ◌+◌, ◌*◌, ◌/◌, ◌%◌, ◌≤◌, ◌<◌}
+use Rattle.operands.specs.Prelude.{refl, sym, ap, ◌∙◌, Bool, true, false, not, List, [], ℕ, zero, suc, le_of_suc-le-suc, not-suc-le-zero, add-one, arith, leb, eqb, length, get_or, take, drop, length-drop, take-suc, drop-cons, get_or-drop, length-take-le, get_or-take, leb-true, leb-false, eq-eqb, ne_eqb, eqb-true, not-true}
 use Rattle.rules.specs.declared.Point.{Point}
 use Rattle.rules.specs.Operands.{bits_of, from_top, point, is_data, all_data}
 use Rattle.rules.proofs.Bools.{true_false, and_left, and_right, and_both, by_test, pick_yes, pick_no}

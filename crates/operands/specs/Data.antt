@@ -1,5 +1,6 @@
 -- Operands whose bytes have all come
-use Rattle.operands.specs.Prelude.{ℕ, ◌+◌, ◌*◌, Bool, List, get_or}
+use Rattle.std.specs.Prelude.{◌+◌, ◌*◌}
+use Rattle.operands.specs.Prelude.{ℕ, Bool, List, get_or}
 use Rattle.rules.specs.Choice.{pick}
 use Rattle.rules.specs.Operands.{point, all_data}
 use Rattle.operands.specs.declared.whole.Whole.{Whole}

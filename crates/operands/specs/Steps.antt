@@ -1,5 +1,6 @@
 -- An operand's point byte by byte, and a colour three-tuple by three-tuple
-use Rattle.operands.specs.Prelude.{ℕ, ◌+◌, ◌*◌, ◌-◌, ◌/◌, ◌%◌, Bool, true, false}
+use Rattle.std.specs.Prelude.{◌+◌, ◌*◌, ◌-◌, ◌/◌, ◌%◌}
+use Rattle.operands.specs.Prelude.{ℕ, Bool, true, false}
 use Rattle.rules.specs.declared.Point.{Point}
 use Rattle.rules.specs.Operands.{x_bits, y_bits, green, red, blue, from_top, wrapped_sum}
 use Rattle.operands.specs.declared.Hue.{Hue}

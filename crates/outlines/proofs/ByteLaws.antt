@@ -1,5 +1,6 @@
 -- The codes of a data byte, carried out.
-use Rattle.outlines.specs.Prelude.{ℕ, ◌+◌, ◌≤◌, Bool, true, false, List, ◌≡◌, refl, sym, ap, ◌∙◌, subst, ltb-true, ltb-false}
+use Rattle.std.specs.Prelude.{◌+◌, ◌≤◌, ◌≡◌}
+use Rattle.outlines.specs.Prelude.{ℕ, Bool, true, false, List, refl, sym, ap, ◌∙◌, subst, ltb-true, ltb-false}
 use Rattle.rules.specs.declared.Command.{Command}
 use Rattle.rules.specs.declared.Drawing.{Drawing}
 use Rattle.rules.specs.declared.Look.{Look}

@@ -1,5 +1,6 @@
 -- Trails against the rules.
-use Rattle.outlines.specs.Prelude.{ℕ, ◌+◌, ◌≤◌, arith, Bool, true, false, not, ◌||◌, List, [], ◌∷◌, ◌++◌, append-nil, length, ◌≡◌, refl, sym, ap, ◌∙◌, subst, eqb}
+use Rattle.std.specs.Prelude.{◌+◌, ◌≤◌, ◌||◌, ◌∷◌, ◌++◌, ◌≡◌}
+use Rattle.outlines.specs.Prelude.{ℕ, arith, Bool, true, false, not, List, [], append-nil, length, refl, sym, ap, ◌∙◌, subst, eqb}
 use Rattle.rules.specs.declared.Outline.{Outline}
 use Rattle.rules.specs.declared.Outline.TheVariants.{Line, Polygon}
 use Rattle.rules.specs.declared.Record.{Record}

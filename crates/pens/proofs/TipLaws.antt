@@ -1,5 +1,6 @@
 -- The cursor that is behind, and follows the point by the move attribute of its text
-use Rattle.pens.specs.Prelude.{◌≡◌, refl, ap, sym, ◌∙◌, Bool, true, false}
+use Rattle.std.specs.Prelude.{◌≡◌}
+use Rattle.pens.specs.Prelude.{refl, ap, sym, ◌∙◌, Bool, true, false}
 use Rattle.rules.specs.declared.Moving.{Moving}
 use Rattle.rules.specs.declared.Moving.TheVariants.{Together, CursorLeads, PointLeads, Independent}
 use Rattle.rules.specs.declared.Pair.TheVariants.{NoPair}

@@ -1,20 +1,14 @@
 -- Words hold a text: what is put into them is what they are read as
-use Rattle.pens.specs.Prelude.{ℕ, ◌+◌, ◌*◌, ◌/◌, ◌%◌, ◌<◌, ◌≤◌, ◌≡◌, refl, ap, ◌∙◌, arith, List, [], ◌∷◌, length, get_or, set}
-use Rattle.rules.specs.declared.Interrow.{Interrow}
+use Rattle.std.specs.Prelude.{◌+◌, ◌*◌, ◌/◌, ◌%◌, ◌<◌, ◌≤◌, ◌≡◌, ◌∷◌}
+use Rattle.pens.specs.Prelude.{ℕ, refl, ap, ◌∙◌, arith, List, [], length, get_or, set}
 use Rattle.rules.specs.declared.Interrow.TheVariants.{OneRow, FiveFourthsRow, ThreeHalvesRow, TwoRows}
-use Rattle.rules.specs.declared.Moving.{Moving}
 use Rattle.rules.specs.declared.Moving.TheVariants.{Together, CursorLeads, PointLeads, Independent}
-use Rattle.rules.specs.declared.Pair.{Pair}
 use Rattle.rules.specs.declared.Pair.TheVariants.{NoPair, Automatic, ReturnSeen, FeedSeen}
-use Rattle.rules.specs.declared.Path.{Path}
 use Rattle.rules.specs.declared.Path.TheVariants.{Right, Left, Up, Down}
 use Rattle.rules.specs.declared.Point.{Point}
-use Rattle.rules.specs.declared.Rotation.{Rotation}
 use Rattle.rules.specs.declared.Rotation.TheVariants.{Degrees0, Degrees90, Degrees180, Degrees270}
 use Rattle.rules.specs.declared.Settings.{Settings}
-use Rattle.rules.specs.declared.Spacing.{Spacing}
 use Rattle.rules.specs.declared.Spacing.TheVariants.{One, FiveFourths, ThreeHalves, Proportional}
-use Rattle.rules.specs.declared.Style.{Style}
 use Rattle.rules.specs.declared.Style.TheVariants.{Underscore, Block, CrossHair, Custom}
 use Rattle.rules.specs.declared.Text.{Text}
 use Rattle.rules.specs.Text.{coded, byte_one, byte_two, fresh_settings, with_cursor, with_settings, with_field, with_first, with_second}

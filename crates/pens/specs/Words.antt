@@ -1,5 +1,6 @@
 -- Text as nine words, which can be lent: the field, the cursor, TEXT's two bytes, and of a begun pair its state and its place
-use Rattle.pens.specs.Prelude.{ℕ, ◌+◌, ◌%◌, List, get_or}
+use Rattle.std.specs.Prelude.{◌+◌, ◌%◌}
+use Rattle.pens.specs.Prelude.{ℕ, List, get_or}
 use Rattle.rules.specs.declared.Pair.{Pair}
 use Rattle.rules.specs.declared.Pair.TheVariants.{NoPair, Automatic, ReturnSeen, FeedSeen}
 use Rattle.rules.specs.declared.Point.{Point}

@@ -1,5 +1,6 @@
 -- Rows and columns, put together to the rules
-use Rattle.positioning.proofs.Prelude.{ℕ, ◌+◌, ◌*◌, ◌-◌, ◌^◌, ◌<◌, ◌≤◌, ◌≡◌, sym, ap, ◌∙◌, arith, mul-le-mul, zero-mul}
+use Rattle.std.specs.Prelude.{◌+◌, ◌*◌, ◌-◌, ◌^◌, ◌<◌, ◌≤◌, ◌≡◌}
+use Rattle.positioning.proofs.Prelude.{ℕ, sym, ap, ◌∙◌, arith, mul-le-mul, zero-mul}
 use Rattle.rules.specs.declared.Pen.{Pen}
 use Rattle.rules.specs.Numbers.{display_top, fresh_width, fresh_height}
 use Rattle.rules.specs.Text.{magnitude, positive}

@@ -1,5 +1,6 @@
 -- The place of the piece after a run
-use Rattle.progress.specs.Prelude.{ℕ, zero, suc, ◌+◌, ◌≡◌, refl}
+use Rattle.std.specs.Prelude.{◌+◌, ◌≡◌}
+use Rattle.progress.specs.Prelude.{ℕ, zero, suc, refl}
 use Rattle.progress.specs.Progress.{place_after}
 
 pub placed_piece : (d n at : ℕ) → d ≡ 0 → at + n ≡ place_after d n at

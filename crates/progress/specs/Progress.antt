@@ -1,5 +1,6 @@
 -- How far a reading has come, and each way in which it goes on
-use Rattle.progress.specs.Prelude.{ℕ, zero, suc, ◌+◌}
+use Rattle.std.specs.Prelude.{◌+◌}
+use Rattle.progress.specs.Prelude.{ℕ, zero, suc}
 use Rattle.rules.specs.declared.Sets.{Sets}
 use Rattle.rules.specs.declared.Waiting.{Waiting}
 use Rattle.rules.specs.declared.Session.{Session}

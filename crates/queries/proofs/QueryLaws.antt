@@ -1,5 +1,6 @@
 -- What is unread of a piece; and all that is promised of a colour
-use Rattle.queries.proofs.Prelude.{◌≡◌, refl, sym, ap, ◌∙◌, Bool, true, false, List, ℕ, ◌-◌, min, arith, leb, length, take, drop, length-drop, drop_of_length-le, take_all, leb-true, leb-false}
+use Rattle.std.specs.Prelude.{◌≡◌, ◌-◌}
+use Rattle.queries.proofs.Prelude.{refl, sym, ap, ◌∙◌, Bool, true, false, List, ℕ, min, arith, leb, length, take, drop, length-drop, drop_of_length-le, take_all, leb-true, leb-false}
 use Rattle.rules.specs.declared.Session.{Session}
 use Rattle.rules.specs.declared.Shade.{Shade}
 use Rattle.rules.specs.Calls.{colour, shade_number, shade_values, unread}

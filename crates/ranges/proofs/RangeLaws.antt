@@ -1,5 +1,6 @@
 -- What is in range, part by part
-use Rattle.ranges.specs.Prelude.{◌≡◌, refl, sym, ◌∙◌, Bool, true, false, ◌&&◌, List, [], ◌∷◌, ℕ, ◌+◌, ◌<◌, ◌≤◌, add-one, le-leb, lt-leb, length, get_or, drop, drop_of_length-le, drop-cons}
+use Rattle.std.specs.Prelude.{◌≡◌, ◌&&◌, ◌∷◌, ◌+◌, ◌<◌, ◌≤◌}
+use Rattle.ranges.specs.Prelude.{refl, sym, ◌∙◌, Bool, true, false, List, [], ℕ, add-one, le-leb, lt-leb, length, get_or, drop, drop_of_length-le, drop-cons}
 use types.Run.{OneOf, miss}
 use denote.Enum.Declared.{tag_of}
 use Rattle.rules.specs.contracts.Waiting.{the_type as the-waiting}

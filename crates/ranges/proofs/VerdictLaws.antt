@@ -1,5 +1,6 @@
 -- The tests before a feed or an end, by their outcomes
-use Rattle.ranges.specs.Prelude.{◌≡◌, refl, ◌∙◌, Bool, true, false, ◌&&◌}
+use Rattle.std.specs.Prelude.{◌≡◌, ◌&&◌}
+use Rattle.ranges.specs.Prelude.{refl, ◌∙◌, Bool, true, false}
 use Rattle.rules.specs.declared.Session.{Session}
 use Rattle.rules.specs.declared.Status.{Status}
 use Rattle.rules.specs.declared.Status.TheVariants.{Running, Ended, Stopped}

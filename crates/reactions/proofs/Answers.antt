@@ -1,5 +1,6 @@
 -- What an answer keeps of the first cells and of the store.
-use Rattle.reactions.specs.Prelude.{◌≡◌, refl, List, ℕ}
+use Rattle.std.specs.Prelude.{◌≡◌}
+use Rattle.reactions.specs.Prelude.{refl, List, ℕ}
 use Rattle.reactions.specs.View.{AsLentBy, AsLent}
 use Rattle.reactions.specs.declared.Effect.{Effect}
 use Rattle.reactions.specs.declared.Effect.TheVariants.{Refuses, Calls, Acts, Uses, Designates}

@@ -1,5 +1,6 @@
 -- The sets after an action and after an effect
-use Rattle.reactions.specs.Prelude.{◌≡◌, refl, List, [], ◌∷◌, ℕ, eqb}
+use Rattle.std.specs.Prelude.{◌≡◌, ◌∷◌}
+use Rattle.reactions.specs.Prelude.{refl, List, [], ℕ, eqb}
 use types.Run.{OneOf, miss}
 use denote.Enum.Declared.{tag_of}
 use Rattle.rules.specs.contracts.Action.{the_type as the-action}

@@ -1,5 +1,6 @@
 -- What the functions of the coding layer are handed and answer, as the rules have it
-use Rattle.reactions.specs.Prelude.{ℕ, List, ◌≡◌}
+use Rattle.std.specs.Prelude.{◌≡◌}
+use Rattle.reactions.specs.Prelude.{ℕ, List}
 use Rattle.rules.specs.declared.Set.{Set}
 use Rattle.rules.specs.declared.Sets.{Sets}
 use Rattle.rules.specs.declared.Waiting.{Waiting}

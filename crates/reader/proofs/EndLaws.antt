@@ -1,5 +1,6 @@
 -- What end hands over
-use Rattle.reader.specs.Prelude.{ℕ, ◌≡◌, refl, sym, ap, ◌∙◌, List, length}
+use Rattle.std.specs.Prelude.{◌≡◌}
+use Rattle.reader.specs.Prelude.{ℕ, refl, sym, ap, ◌∙◌, List, length}
 use Rattle.rules.specs.declared.Answer.TheVariants.{Refused}
 use Rattle.rules.specs.declared.Ended.{Ended as End}
 use Rattle.rules.specs.declared.Refusal.{Refusal}

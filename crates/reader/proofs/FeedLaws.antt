@@ -1,5 +1,6 @@
 -- Feed, by the outcome of the tests; and of what is unread of a piece
-use Rattle.reader.specs.Prelude.{◌≡◌, sym, ◌∙◌, subst, List, ℕ, ◌-◌, min, length, take, drop}
+use Rattle.std.specs.Prelude.{◌≡◌, ◌-◌}
+use Rattle.reader.specs.Prelude.{sym, ◌∙◌, subst, List, ℕ, min, length, take, drop}
 use Rattle.rules.specs.declared.Refusal.{Refusal}
 use Rattle.rules.specs.declared.Session.{Session}
 use Rattle.rules.specs.declared.Verdict.{Verdict}

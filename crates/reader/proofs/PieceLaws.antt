@@ -1,5 +1,6 @@
 -- A piece fed from its consumed position on, call after call, reads as the undivided reading does
-use Rattle.reader.specs.Prelude.{◌≡◌, refl, sym, ap, ap₂, ◌∙◌, subst, List, [], ℕ, ◌+◌, ◌≤◌, ◌<◌, arith, length, drop, length-drop, drop-drop}
+use Rattle.std.specs.Prelude.{◌≡◌, ◌+◌, ◌≤◌, ◌<◌}
+use Rattle.reader.specs.Prelude.{refl, sym, ap, ap₂, ◌∙◌, subst, List, [], ℕ, arith, length, drop, length-drop, drop-drop}
 use Rattle.rules.specs.declared.Answer.{Answer}
 use Rattle.rules.specs.declared.Answer.TheVariants.{Done, Full, Refused}
 use Rattle.rules.specs.Numbers.{room_for_step}

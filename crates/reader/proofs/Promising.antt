@@ -1,5 +1,6 @@
 -- The number of an answer follows from all that is handed over; `number_tells` (rules, Numbers) says that it determines the answer
-use Rattle.reader.specs.Prelude.{ℕ, ◌≡◌, ap, List}
+use Rattle.std.specs.Prelude.{◌≡◌}
+use Rattle.reader.specs.Prelude.{ℕ, ap, List}
 use Rattle.rules.specs.Step.{State}
 use Rattle.rules.specs.Calls.{number_of, Handed, feed, end}
 use Rattle.rules.specs.declared.Fed.{Fed}

@@ -1,5 +1,6 @@
 -- A piece fed until it is read or a step is refused, each call lent what the one before left unread
-use Rattle.reader.specs.Prelude.{◌≡◌, List, ℕ}
+use Rattle.std.specs.Prelude.{◌≡◌}
+use Rattle.reader.specs.Prelude.{List, ℕ}
 use Rattle.rules.specs.declared.Answer.{Answer}
 use Rattle.rules.specs.declared.Answer.TheVariants.{Done, Full, Refused}
 use Rattle.rules.specs.Step.{State}

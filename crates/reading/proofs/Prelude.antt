@@ -1,8 +1,8 @@
 -- What the files of this crate use of the libraries, under one name
-pub use mathlib.Core.Path.{◌≡◌, refl, sym, ap, ◌∙◌, subst}
+pub use mathlib.Core.Path.{refl, sym, ap, ◌∙◌, subst}
 pub use mathlib.Core.Bool.{Bool, true, false}
-pub use mathlib.Core.List.{List, ◌++◌, append-nil, append_assoc}
-pub use Prim.Native.Nat.{ℕ, suc, ◌+◌, ◌-◌, ◌≤◌, ◌<◌}
+pub use mathlib.Core.List.{List, append-nil, append_assoc}
+pub use Prim.Native.Nat.{ℕ, suc}
 pub use native.Mathlib.Nat.{add-zero, zero-add, sub-zero, add-suc, suc-add}
 pub use native.Mathlib.Numerals.{add-one}
 pub use native.Mathlib.Omega.{arith}

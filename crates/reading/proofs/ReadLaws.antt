@@ -1,5 +1,6 @@
 -- The loop of a reading over the parts that the code holds
-use Rattle.reading.proofs.Prelude.{ℕ, ◌+◌, ◌-◌, ◌<◌, ◌≤◌, ◌≡◌, refl, sym, ap, ◌∙◌, subst, Bool, true, false, List, length, drop, ltb}
+use Rattle.std.specs.Prelude.{◌+◌, ◌-◌, ◌<◌, ◌≤◌, ◌≡◌}
+use Rattle.reading.proofs.Prelude.{ℕ, refl, sym, ap, ◌∙◌, subst, Bool, true, false, List, length, drop, ltb}
 use Rattle.rules.specs.declared.Action.{Action}
 use Rattle.rules.specs.declared.Answer.{Answer}
 use Rattle.rules.specs.declared.Answer.TheVariants.{Done, Full, Refused}

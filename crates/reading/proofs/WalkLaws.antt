@@ -1,5 +1,6 @@
 -- What is kept along a walk
-use Rattle.reading.proofs.Prelude.{ℕ, ◌-◌, ◌∙◌, List, length, drop}
+use Rattle.std.specs.Prelude.{◌-◌}
+use Rattle.reading.proofs.Prelude.{ℕ, ◌∙◌, List, length, drop}
 use Rattle.rules.specs.Reading.{Room, steps_left}
 use Rattle.rules.specs.Step.{State, remove_spent}
 use Rattle.rules.proofs.Readings.{reading_removed}

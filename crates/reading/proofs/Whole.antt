@@ -1,5 +1,6 @@
 -- What the loop of a reading keeps: the whole is what was read so far, and then the reading from here
-use Rattle.reading.proofs.Prelude.{ℕ, suc, ◌+◌, ◌-◌, ◌≤◌, ◌<◌, add-zero, zero-add, sub-zero, add-suc, suc-add, add-one, arith, ◌≡◌, refl, sym, ap, ◌∙◌, subst, List, ◌++◌, append-nil, append_assoc, length, take, drop, length-append, take-append-drop, ltb, ltb-false, take_at, drop_at, length-take-le, drop-drop}
+use Rattle.std.specs.Prelude.{◌+◌, ◌-◌, ◌≤◌, ◌<◌, ◌≡◌, ◌++◌}
+use Rattle.reading.proofs.Prelude.{ℕ, suc, add-zero, zero-add, sub-zero, add-suc, suc-add, add-one, arith, refl, sym, ap, ◌∙◌, subst, List, append-nil, append_assoc, length, take, drop, length-append, take-append-drop, ltb, ltb-false, take_at, drop_at, length-take-le, drop-drop}
 use Rattle.rules.specs.declared.Answer.{Answer}
 use Rattle.rules.specs.Numbers.{room_for_step}
 use Rattle.rules.specs.Record.{bytes_of_all}

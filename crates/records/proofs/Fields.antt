@@ -1,5 +1,6 @@
 -- The mode and the colour bytes of a record
-use Rattle.records.specs.Prelude.{◌≡◌, sym, ℕ}
+use Rattle.std.specs.Prelude.{◌≡◌}
+use Rattle.records.specs.Prelude.{sym, ℕ}
 use Rattle.rules.specs.declared.Colour.{Colour}
 use Rattle.rules.specs.declared.Mode.{Mode}
 use Rattle.rules.specs.Record.{mode_number, colour0, colour1, colour2}

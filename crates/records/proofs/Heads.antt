@@ -1,5 +1,6 @@
 -- The first eight bytes of a record as two numbers
-use Rattle.records.specs.Prelude.{◌≡◌, ap, ◌∙◌, List, [], ◌∷◌, ◌++◌, ℕ, ◌+◌, ◌*◌, ◌/◌, ◌%◌, ◌≤◌, arith, set}
+use Rattle.std.specs.Prelude.{◌≡◌, ◌∷◌, ◌++◌, ◌+◌, ◌*◌, ◌/◌, ◌%◌, ◌≤◌}
+use Rattle.records.specs.Prelude.{ap, ◌∙◌, List, [], ℕ, arith, set}
 use Rattle.rules.specs.declared.Look.{Look}
 use Rattle.rules.specs.declared.Point.{Point}
 use Rattle.rules.specs.declared.Record.{Record}

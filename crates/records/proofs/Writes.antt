@@ -1,5 +1,6 @@
 -- Bytes written at a place of the output
-use Rattle.records.specs.Prelude.{◌≡◌, ap, ◌∙◌, List, [], ◌++◌, append_assoc, ℕ, ◌+◌, ◌≤◌, add-zero, zero-add, add_assoc, arith, length, take, drop, length-append, length-take, length-drop, take-append-drop, sets, sets-eq, length-take-le, take_at, drop-drop}
+use Rattle.std.specs.Prelude.{◌≡◌, ◌++◌, ◌+◌, ◌≤◌}
+use Rattle.records.specs.Prelude.{ap, ◌∙◌, List, [], append_assoc, ℕ, add-zero, zero-add, add_assoc, arith, length, take, drop, length-append, length-take, length-drop, take-append-drop, sets, sets-eq, length-take-le, take_at, drop-drop}
 use Rattle.rules.proofs.Lists.{drop_past}
 use Rattle.records.specs.Bytes.{overwrite}
 

@@ -1,5 +1,6 @@
 -- Bytes written at a place of the output
-use Rattle.records.specs.Prelude.{ℕ, ◌+◌, List, [], ◌∷◌, ◌++◌, length, take, drop}
+use Rattle.std.specs.Prelude.{◌+◌, ◌∷◌, ◌++◌}
+use Rattle.records.specs.Prelude.{ℕ, List, [], length, take, drop}
 use Rattle.rules.specs.declared.Record.{Record}
 use Rattle.rules.specs.Record.{word}
 use Rattle.records.specs.declared.Head.{Head}

@@ -1,5 +1,6 @@
 -- The number that `from_top` makes of bits, and the bits that bytes give
-use Rattle.rules.specs.Prelude.{◌≡◌, refl, sym, ap, ◌∙◌, List, [], ◌∷◌, ◌++◌, map, append_assoc, ℕ, zero, suc, ◌+◌, ◌*◌, ◌-◌, ◌/◌, ◌%◌, ◌^◌, ◌≤◌, ◌<◌, zero-add, add_assoc, zero-sub, sub-zero, suc-sub-suc, suc-add, zero-mul, mul-zero, mul_assoc, add-mul, mod-lt, mod-one, zero-div, mul-le-mul_right, arith, get_or, take, take-nil, take-append-add, div-eq_of_lt, mul-add-div_right, length, length-append, replicate, pow-suc, pow-add, pow_pos, mod-pow-add, shr-shr}
+use Rattle.std.specs.Prelude.{◌≡◌, ◌∷◌, ◌++◌, ◌+◌, ◌*◌, ◌-◌, ◌/◌, ◌%◌, ◌^◌, ◌≤◌, ◌<◌}
+use Rattle.rules.specs.Prelude.{refl, sym, ap, ◌∙◌, List, [], map, append_assoc, ℕ, zero, suc, zero-add, add_assoc, zero-sub, sub-zero, suc-sub-suc, suc-add, zero-mul, mul-zero, mul_assoc, add-mul, mod-lt, mod-one, zero-div, mul-le-mul_right, arith, get_or, take, take-nil, take-append-add, div-eq_of_lt, mul-add-div_right, length, length-append, replicate, pow-suc, pow-add, pow_pos, mod-pow-add, shr-shr}
 use Rattle.rules.specs.Operands.{bit, three_tuples, green, red, blue, green_bits, red_bits, blue_bits, bits_of, from_top}
 
 -- No bits

@@ -1,5 +1,6 @@
 -- CAN: what a 1/8 does that is read as a control
-use Rattle.rules.specs.Prelude.{ℕ, ◌≡◌, refl, sym, ap, ◌∙◌, subst, false, and-false, List, [], ◌∷◌, ◌++◌, append_assoc}
+use Rattle.std.specs.Prelude.{◌≡◌, ◌∷◌, ◌++◌}
+use Rattle.rules.specs.Prelude.{ℕ, refl, sym, ap, ◌∙◌, subst, false, and-false, List, [], append_assoc}
 use Rattle.rules.specs.Types.{Waiting, Nothing, Shifted, Escape, Designator, Longer, Name, Body, BodyEscape, Row·waiting as Row, Column}
 use Rattle.rules.specs.Types.{Cancels, Below, Coding, Bodies, Close, Cancel, Drawing}
 use Rattle.rules.specs.Numbers.{can}

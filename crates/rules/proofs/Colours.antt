@@ -1,5 +1,6 @@
 -- SET COLOUR's data: the colour they give, and what is left of it where they are cut short
-use Rattle.rules.specs.Prelude.{ℕ, zero, suc, ◌+◌, ◌*◌, ◌-◌, ◌/◌, ◌^◌, ◌≤◌, ◌<◌, arith, ◌≡◌, refl, sym, ap, ◌∙◌, subst, true, false, List, [], ◌∷◌, ◌++◌, append_assoc, append-nil, set, length, length-append, length-set, length-take, take, take_all, take-append-le, take-suc-set, ltb, eqb, ne_eqb, ltb-true, ltb-false}
+use Rattle.std.specs.Prelude.{◌*◌, ◌-◌, ◌/◌, ◌^◌, ◌≤◌, ◌<◌, ◌≡◌, ◌∷◌, ◌++◌}
+use Rattle.rules.specs.Prelude.{ℕ, zero, suc, arith, refl, sym, ap, ◌∙◌, subst, true, false, List, [], append_assoc, append-nil, set, length, length-append, length-set, length-take, take, take_all, take-append-le, take-suc-set, ltb, eqb, ne_eqb, ltb-true, ltb-false}
 use Rattle.rules.specs.Types.{Done, Opcode, Data, Close, Point, Operand, Drawing, Look, Mode, Direct, Mapped, TwoColour, Record, Second, Verdict, Passes, Fails}
 use Rattle.rules.specs.Numbers.{origin}
 use Rattle.rules.specs.Operands.{green_bits, red_bits, blue_bits, bits_of, from_top, is_data, all_data, begun}

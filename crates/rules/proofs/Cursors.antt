@@ -1,5 +1,6 @@
 -- The cursor that an act leaves is held where it stands, but while TEXT is open or NSR waits, and its field fits there
-use Rattle.rules.specs.Prelude.{ℕ, zero, suc, ◌+◌, ◌-◌, ◌%◌, ◌^◌, ◌≤◌, arith, ◌≡◌, refl, sym, ap, ◌∙◌, subst, Bool, true, false, not, ◌||◌, List, [], get_or, drop, ltb, leb, eqb, eqb-true, leb-true, leb-false, le-leb, ltb-false}
+use Rattle.std.specs.Prelude.{◌+◌, ◌-◌, ◌%◌, ◌^◌, ◌≤◌, ◌≡◌, ◌||◌}
+use Rattle.rules.specs.Prelude.{ℕ, zero, suc, arith, refl, sym, ap, ◌∙◌, subst, Bool, true, false, not, List, [], get_or, drop, ltb, leb, eqb, eqb-true, leb-true, leb-false, le-leb, ltb-false}
 use Rattle.rules.specs.Types.{Action, Idle, Close, Control·action as Control, Cancel, Format, Reset, Position, Character, Opcode, Data, Point, Pen, Text, Record}
 use Rattle.rules.specs.Types.{Due, First, Second, Third, Past, Outline, Drawing, Row, Mode, Direct, Mapped, TwoColour, Reach, Coordinate}
 use Rattle.rules.specs.Types.{Rotation, Degrees0, Degrees90, Degrees180, Degrees270, Effector, Apb, Apf, Apd, Apu, Cs, Apr, Aph, Positioning, Aps, Nsr, Repertoire}

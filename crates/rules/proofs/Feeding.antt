@@ -1,5 +1,6 @@
 -- One feed after others: a reading goes on where a feed ended full, what is left of the budget, and lists with a call more
-use Rattle.rules.specs.Prelude.{ℕ, suc, ◌+◌, ◌-◌, ◌≤◌, ◌<◌, add_assoc, arith, ◌≡◌, refl, sym, ap, ap₂, ◌∙◌, subst, List, [], ◌∷◌, ◌++◌, append_assoc, append-nil, length, drop, drop-append-le, drop-drop, ltb-true}
+use Rattle.std.specs.Prelude.{◌+◌, ◌-◌, ◌≤◌, ◌<◌, ◌≡◌, ◌∷◌, ◌++◌}
+use Rattle.rules.specs.Prelude.{ℕ, suc, add_assoc, arith, refl, sym, ap, ap₂, ◌∙◌, subst, List, [], append_assoc, append-nil, length, drop, drop-append-le, drop-drop, ltb-true}
 use Rattle.rules.specs.Types.{Record, Done, Full, Verdict, Passes, Fails}
 use Rattle.rules.specs.Numbers.{room_for_step}
 use Rattle.rules.specs.Step.{State, remove_spent, Source, NothingLeft, Found, seek, Goes, interpret}

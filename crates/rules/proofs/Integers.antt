@@ -1,7 +1,8 @@
 -- The coordinates of text as integers: one stands for ahead less back, and the rules say of it what they say of that integer
-use Rattle.rules.specs.Prelude.{ℕ, zero, suc, ◌+◌, ◌-◌, ◌^◌, ◌<◌, ◌≤◌, ◌≡◌, refl, sym, ap, ◌∙◌, true, false, ◌&&◌}
+use Rattle.std.specs.Prelude.{◌+◌, ◌-◌, ◌^◌, ◌<◌, ◌≤◌, ◌≡◌, ◌&&◌, ◌+ℤ◌, ◌-ℤ◌}
+use Rattle.rules.specs.Prelude.{ℕ, zero, suc, refl, sym, ap, ◌∙◌, true, false}
 use Rattle.rules.specs.Prelude.{arith, ltb, le_z, lt-ltb, le-ltb, lt-leb, le-leb, ltb-true, ltb-false}
-use Rattle.rules.specs.Prelude.{ℤ, pos, negsuc, neg_ℤ, sub_ℕ, ◌+ℤ◌, ◌-ℤ◌, +ℤ_assoc, +ℤ_comm, neg_ℤ-+ℤ}
+use Rattle.rules.specs.Prelude.{ℤ, pos, negsuc, neg_ℤ, sub_ℕ, +ℤ_assoc, +ℤ_comm, neg_ℤ-+ℤ}
 use Rattle.rules.specs.Types.{Reach, Coordinate}
 use Rattle.rules.specs.Numbers.{screen_side}
 use Rattle.rules.specs.Operands.{signed}

@@ -1,5 +1,6 @@
 -- From a fresh session every place that drawing keeps is a multiple of 256, and so is every coordinate of a record but of kind 8
-use Rattle.rules.specs.Prelude.{ℕ, zero, suc, ◌+◌, ◌*◌, ◌-◌, ◌%◌, ◌^◌, ◌<◌, ◌≤◌, arith, mul_assoc, pow-add, pow-suc, ◌≡◌, refl, sym, ap, ◌∙◌, Bool, true, false, List, [], ◌∷◌, ◌++◌, length, length-append, length-take, length-set, ltb, eqb}
+use Rattle.std.specs.Prelude.{◌+◌, ◌*◌, ◌-◌, ◌%◌, ◌^◌, ◌<◌, ◌≤◌, ◌≡◌, ◌∷◌, ◌++◌}
+use Rattle.rules.specs.Prelude.{ℕ, zero, suc, arith, mul_assoc, pow-add, pow-suc, refl, sym, ap, ◌∙◌, Bool, true, false, List, [], length, length-append, length-take, length-set, ltb, eqb}
 use Rattle.rules.specs.Types.{Action, Idle, Close, Control·action as Control, Cancel, Format, Reset, Position, Character, Opcode, Data, Point, Operand, Pen, Text, Look, Record}
 use Rattle.rules.specs.Types.{Due, Outline, Line, Polygon, Command, Drawing, Row, Mode, Direct, Mapped, TwoColour, Reach, Coordinate}
 use Rattle.rules.specs.Types.{Moving, Together, CursorLeads, PointLeads, Independent, Style, Effector, Apb, Apf, Apd, Apu, Cs, Apr, Aph}

@@ -1,5 +1,6 @@
 -- A number determines its answer: different answers have different numbers
-use Rattle.rules.specs.Prelude.{ℕ, zero, suc, ◌≡◌, refl, sym, ap, ◌∙◌, List, [], ◌∷◌, get_or}
+use Rattle.std.specs.Prelude.{◌≡◌, ◌∷◌}
+use Rattle.rules.specs.Prelude.{ℕ, zero, suc, refl, sym, ap, ◌∙◌, List, [], get_or}
 use Rattle.rules.specs.Types.{BudgetUsed, ByteOver127, NameBelow, Unsupported, DefinitionInBody, StoreFull, TooDeep}
 use Rattle.rules.specs.Types.{TooManyVertices, EndInside, BodyBytesLeft, StoreSize, OutOfRange, AfterEnd, AddressOver15}
 use Rattle.rules.specs.Types.{Answer, Done, Full, Refused, Shade, Of, NoAddress}

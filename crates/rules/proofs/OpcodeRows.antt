@@ -1,5 +1,6 @@
 -- The table of opcodes: its rows say what the bullets of "Operands and opcodes" say, group by group; and a row found by its place
-use Rattle.rules.specs.Prelude.{ℕ, zero, suc, ◌-◌, ◌%◌, arith, ◌≡◌, refl, sym, ◌∙◌, ◌&&◌, List, [], ◌∷◌, ◌++◌, map, get_or, replicate, ltb, leb, eqb, ltb-true}
+use Rattle.std.specs.Prelude.{◌-◌, ◌%◌, ◌≡◌, ◌&&◌, ◌∷◌, ◌++◌}
+use Rattle.rules.specs.Prelude.{ℕ, zero, suc, arith, refl, sym, ◌∙◌, List, [], map, get_or, replicate, ltb, leb, eqb, ltb-true}
 use Rattle.rules.specs.Types.{Due, First, Second, Third, IncrementalLine, IncrementalPolygon, Role, MoveTo, Start, StepSize, LineCodes, PolygonCodes}
 use Rattle.rules.specs.Drawing.{other, rows, row_of, role_of}
 use Rattle.rules.proofs.Bools.{by_test, pick_yes, pick_no}

@@ -1,6 +1,7 @@
 -- The codes of incremental outlines (02, 5/13): what a code leaves due, which moves a polygon takes and which byte it refuses, and what
 -- a sign change does
-use Rattle.rules.specs.Prelude.{ℕ, suc, ◌+◌, ◌^◌, ◌<◌, ◌≤◌, arith, ◌≡◌, refl, sym, ap, ap₂, ◌∙◌, subst, Bool, true, false, not, ◌||◌, List, [], ◌∷◌, ltb, eqb, ne_eqb, ltb-true, ltb-false}
+use Rattle.std.specs.Prelude.{◌+◌, ◌^◌, ◌<◌, ◌≤◌, ◌≡◌, ◌||◌, ◌∷◌}
+use Rattle.rules.specs.Prelude.{ℕ, suc, arith, refl, sym, ap, ap₂, ◌∙◌, subst, Bool, true, false, not, List, [], ltb, eqb, ne_eqb, ltb-true, ltb-false}
 use Rattle.rules.specs.Types.{Point, Second, Third, Outline, Line, Polygon, Command, Drawing, Refusal, TooManyVertices}
 use Rattle.rules.specs.Numbers.{most_vertices}
 use Rattle.rules.specs.Choice.{pick}

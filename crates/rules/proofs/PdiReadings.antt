@@ -1,5 +1,6 @@
 -- Bytes that are read in PDI from the page: an opcode, and data
-use Rattle.rules.specs.Prelude.{ℕ, zero, suc, ◌≤◌, arith, ◌≡◌, refl, sym, ap, ◌∙◌, true, List, [], ◌∷◌, ◌++◌, length, ltb, le-ltb, le_of_suc-le-suc, suc-le-suc, not-suc-le-zero}
+use Rattle.std.specs.Prelude.{◌≤◌, ◌≡◌, ◌∷◌, ◌++◌}
+use Rattle.rules.specs.Prelude.{ℕ, zero, suc, arith, refl, sym, ap, ◌∙◌, true, List, [], length, ltb, le-ltb, le_of_suc-le-suc, suc-le-suc, not-suc-le-zero}
 use Rattle.rules.specs.Types.{Done, Action, Opcode, Data, Bodies, Drawing, Record, Refusal}
 use Rattle.rules.specs.Choice.{pick}
 use Rattle.rules.specs.Operands.{is_data, all_data}

@@ -1,5 +1,6 @@
 -- Every reading from a fresh session: the coordinates of its records are multiples of 256, and its cursor is held with its field fitting
-use Rattle.rules.specs.Prelude.{ℕ, zero, suc, ◌+◌, ◌*◌, ◌<◌, zero-add, suc-add, arith, ◌≡◌, refl, sym, ap, ap₂, ◌∙◌, subst, Bool, true, false, List, [], ◌∷◌, ◌++◌, length, get_or, ltb, eqb}
+use Rattle.std.specs.Prelude.{◌+◌, ◌*◌, ◌<◌, ◌≡◌, ◌∷◌, ◌++◌}
+use Rattle.rules.specs.Prelude.{ℕ, zero, suc, zero-add, suc-add, arith, refl, sym, ap, ap₂, ◌∙◌, subst, Bool, true, false, List, [], length, get_or, ltb, eqb}
 use Rattle.rules.specs.Types.{Repertoire, Primary, Supplementary, Mosaic, Drcs, Set, Characters, Pdi, Macro, Element, Definition}
 use Rattle.rules.specs.Types.{Waiting, Nothing, Shifted, Escape, Designator, Longer, Name, Body, BodyEscape, Row·waiting as Row, Column}
 use Rattle.rules.specs.Types.{Coding, Control, Ignored, Locks, Shifts, Escapes, Recorded, Cancels, Formats, Positions, Positioning, Aps, Nsr}

@@ -1,5 +1,6 @@
 -- What a byte does where nothing is waited for: it is read from the set in use, or is a control
-use Rattle.rules.specs.Prelude.{ℕ, ◌≤◌, ◌<◌, ◌≡◌, sym, ap, ◌∙◌, Bool, true, false, List, get_or, ltb, lt-ltb, le-ltb}
+use Rattle.std.specs.Prelude.{◌≤◌, ◌<◌, ◌≡◌}
+use Rattle.rules.specs.Prelude.{ℕ, sym, ap, ◌∙◌, Bool, true, false, List, get_or, ltb, lt-ltb, le-ltb}
 use Rattle.rules.specs.Types.{Class, Column2, Above, Coding, Ignored, Waiting, Nothing}
 use Rattle.rules.specs.Choice.{pick}
 use Rattle.rules.specs.Coding.{wait, set_of, controls, control, graphic, class_of, react_to, react}

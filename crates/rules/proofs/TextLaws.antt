@@ -1,5 +1,6 @@
 -- Laws of text: held places, absolute settings, there and back, the null pair
-use Rattle.rules.specs.Prelude.{ℕ, ◌+◌, ◌-◌, ◌/◌, ◌%◌, ◌^◌, ◌<◌, ◌≤◌, ◌≡◌, refl, sym, ap, ◌∙◌, subst, Bool, true, false, not, ◌&&◌}
+use Rattle.std.specs.Prelude.{◌+◌, ◌-◌, ◌/◌, ◌%◌, ◌^◌, ◌<◌, ◌≤◌, ◌≡◌, ◌&&◌}
+use Rattle.rules.specs.Prelude.{ℕ, refl, sym, ap, ◌∙◌, subst, Bool, true, false, not}
 use Rattle.rules.specs.Prelude.{arith, leb, ltb, leb-true, leb-false, ltb-true, ltb-false, lt-ltb}
 use Rattle.rules.specs.Types.{Point, Pen, Due, Rotation, Degrees0, Degrees90, Degrees180, Degrees270, Path, Right, Left, Up, Down}
 use Rattle.rules.specs.Types.{Moving, Together, CursorLeads, PointLeads, Independent, Style, Underscore, Block, CrossHair, Custom}

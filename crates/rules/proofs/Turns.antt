@@ -1,5 +1,6 @@
 -- What is known of a step that a turn takes
-use Rattle.rules.specs.Prelude.{ℕ, zero, suc, ◌≤◌, arith, ◌≡◌, refl, sym, subst, Bool, true, false, List, length, drop}
+use Rattle.std.specs.Prelude.{◌≤◌, ◌≡◌}
+use Rattle.rules.specs.Prelude.{ℕ, zero, suc, arith, refl, sym, subst, Bool, true, false, List, length, drop}
 use Rattle.rules.specs.Numbers.{room_for_step}
 use Rattle.rules.specs.Record.{bytes_of_all}
 use Rattle.rules.specs.Step.{State, remove_spent, Source, FromBody, FromPiece, Sought, NothingLeft, Spoilt, Found, seek, Move, Stops, Goes, interpret}

@@ -1,5 +1,6 @@
 -- Pages of 02, 4/13, worked by hand: a 1/8 from the page, in bodies, definitions, names, rows and columns
-use Rattle.rules.specs.Prelude.{ℕ, zero, suc, ◌+◌, ◌*◌, ◌/◌, ◌≡◌, refl, List, [], ◌∷◌, ◌++◌, map, get_or, drop, length, replicate}
+use Rattle.std.specs.Prelude.{◌+◌, ◌*◌, ◌/◌, ◌≡◌, ◌∷◌, ◌++◌}
+use Rattle.rules.specs.Prelude.{ℕ, zero, suc, refl, List, [], map, get_or, drop, length, replicate}
 use Rattle.rules.specs.Step.{State}
 use Rattle.rules.specs.Reading.{undivided}
 use Rattle.rules.specs.Calls.{number_of, Terms, with_budget, fresh_state, feed, end}

@@ -1,6 +1,7 @@
 -- Pages of 02, 3/13, worked by hand: SET COLOUR in every mode, its data whole and cut short. The data 6/11 7/5 5/4 4/10 have the
 -- three-tuples 101 011, 110 101, 010 100, 001 010, so green is 10110100, red 01101001 and blue 11010010
-use Rattle.rules.specs.Prelude.{ℕ, ◌≡◌, refl, List, [], ◌∷◌, ◌++◌, map, take}
+use Rattle.std.specs.Prelude.{◌≡◌, ◌∷◌, ◌++◌}
+use Rattle.rules.specs.Prelude.{ℕ, refl, List, [], map, take}
 use Rattle.rules.specs.Types.{Record}
 use Rattle.rules.specs.Numbers.{origin}
 use Rattle.rules.specs.Record.{bytes_of_all}

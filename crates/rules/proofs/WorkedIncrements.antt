@@ -1,5 +1,6 @@
 -- Data of incremental outlines (02, 5/13), worked by hand: read by their rows from a fresh drawing, and closed
-use Rattle.rules.specs.Prelude.{ℕ, ◌-◌, ◌^◌, ◌≡◌, refl, true, false, List, [], ◌∷◌, ◌++◌, map, length, replicate}
+use Rattle.std.specs.Prelude.{◌-◌, ◌^◌, ◌≡◌, ◌∷◌, ◌++◌}
+use Rattle.rules.specs.Prelude.{ℕ, refl, true, false, List, [], map, length, replicate}
 use Rattle.rules.specs.Types.{IncrementalLine, IncrementalPolygon, Drawing, Row, Record, Refused}
 use Rattle.rules.specs.Numbers.{origin}
 use Rattle.rules.specs.Drawing.{row, role_due, with_command, Outcome, NotDrawn, Draw, and_then, data_byte, complete, finish, new_command, fresh_drawing}

@@ -1,5 +1,6 @@
 -- Worked numbers of text: where each act leaves cursor and drawing point
-use Rattle.rules.specs.Prelude.{ℕ, zero, suc, ◌-◌, ◌^◌, ◌≡◌, refl, List, [], ◌∷◌, map}
+use Rattle.std.specs.Prelude.{◌-◌, ◌^◌, ◌≡◌, ◌∷◌}
+use Rattle.rules.specs.Prelude.{ℕ, zero, suc, refl, List, [], map}
 use Rattle.rules.specs.Types.{Point, Pen, First, Second, Third, Past}
 use Rattle.rules.specs.Text.{with_text, with_settings, with_field, reach_along, stride, spacing_quarters, interrow_quarters, row_direction}
 use Rattle.rules.specs.Text.{byte_one, byte_two, follow, advance, apb, row_up, home, apr, apd, close_text, addressed, reset_text, positioned}

@@ -1,5 +1,6 @@
 -- Worked pages of text: where each character, control and opcode stands, and what the field is
-use Rattle.rules.specs.Prelude.{ℕ, zero, suc, ◌+◌, ◌*◌, ◌-◌, ◌/◌, ◌≡◌, refl, List, [], ◌∷◌, map, get_or, drop, length, ltb}
+use Rattle.std.specs.Prelude.{◌+◌, ◌*◌, ◌-◌, ◌/◌, ◌≡◌, ◌∷◌}
+use Rattle.rules.specs.Prelude.{ℕ, zero, suc, refl, List, [], map, get_or, drop, length, ltb}
 use Rattle.rules.specs.Choice.{pick}
 use Rattle.rules.specs.Calls.{number_of, Terms, with_budget}
 use Rattle.rules.specs.Types.{Session, Direct, G1}

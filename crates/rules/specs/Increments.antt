@@ -1,6 +1,7 @@
 -- 02, 5/13, "Incremental outlines": the codes of INCREMENTAL LINE 3/10 and INCREMENTAL POLYGON 3/11. "Read them by the move tables in
 -- source document 000: ..": its sentences are those of Annex D, D.5.3.3.6.4 and D.5.3.3.6.5, cited here and in Drawing
-use Rattle.rules.specs.Prelude.{ℕ, ◌+◌, ◌-◌, ◌/◌, ◌%◌, ◌^◌, Bool, true, false, ◌||◌, List, [], ◌∷◌, eqb}
+use Rattle.std.specs.Prelude.{◌+◌, ◌-◌, ◌/◌, ◌%◌, ◌^◌, ◌||◌, ◌∷◌}
+use Rattle.rules.specs.Prelude.{ℕ, Bool, true, false, List, [], eqb}
 use Rattle.rules.specs.Types.{Point, Outline, Line, Polygon, Due, First, Second, Third, Past}
 use Rattle.rules.specs.Choice.{pick}
 

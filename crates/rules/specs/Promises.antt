@@ -1,6 +1,7 @@
 -- What each call promises: its number, and all that it hands over, are those of the rules. One name for each call, cited by its
 -- contract and by whoever calls it
-use Rattle.rules.specs.Prelude.{ℕ, ◌≡◌, List}
+use Rattle.std.specs.Prelude.{◌≡◌}
+use Rattle.rules.specs.Prelude.{ℕ, List}
 use Rattle.rules.specs.Types.{Session, Shade, Opened, Fed, Ended·handed}
 use Rattle.rules.specs.Step.{State, state_lent}
 use Rattle.rules.specs.Calls.{number_of, Terms, Opening, open_page, Handed, feed, end, colour, shade_number, shade_values}

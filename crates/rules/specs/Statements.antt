@@ -1,7 +1,8 @@
 -- What is claimed of every page, cut, buffer and macro, proved in proofs/Cutting, Expanding and Demand3; of the coordinates of every
 -- record and of the cursor, proved in proofs/Places; of colours cut short, proved in proofs/Colours; of CAN, proved in
 -- proofs/Cancelling; and of incremental outlines, proved in proofs/Outlines
-use Rattle.rules.specs.Prelude.{ℕ, suc, ◌+◌, ◌*◌, ◌-◌, ◌/◌, ◌%◌, ◌^◌, ◌<◌, ◌≤◌, ◌≡◌, Bool, true, false, ◌||◌, List, [], ◌∷◌, ◌++◌, length, take, eqb}
+use Rattle.std.specs.Prelude.{◌+◌, ◌*◌, ◌-◌, ◌/◌, ◌%◌, ◌^◌, ◌<◌, ◌≤◌, ◌≡◌, ◌||◌, ◌∷◌, ◌++◌}
+use Rattle.rules.specs.Prelude.{ℕ, suc, Bool, true, false, List, [], length, take, eqb}
 use Rattle.rules.specs.Types.{Done, Full, Pdi, Close, Point, Text, Record, Reach, Second, Outline, Polygon, Drawing, Refusal, TooManyVertices, Aps, Nsr}
 use Rattle.rules.specs.Types.{Waiting, Nothing, Shifted, Escape, Designator, Longer, Name, Body, BodyEscape, Row·waiting as Row, Column}
 use Rattle.rules.specs.Numbers.{can, most_vertices, screen_side}

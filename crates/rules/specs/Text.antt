@@ -1,6 +1,7 @@
 -- "Text gets its place", 02, 2/13: the settings of TEXT, where the cursor stands, what moves it, and how it and the drawing point
 -- follow each other. Numbers after 001 are lines of that source document; the other sentences are of its readings
-use Rattle.rules.specs.Prelude.{ℕ, ◌+◌, ◌*◌, ◌-◌, ◌/◌, ◌%◌, ◌^◌, Bool, true, false, not, ◌&&◌, ltb, leb, eqb}
+use Rattle.std.specs.Prelude.{◌+◌, ◌*◌, ◌-◌, ◌/◌, ◌%◌, ◌^◌, ◌&&◌}
+use Rattle.rules.specs.Prelude.{ℕ, Bool, true, false, not, ltb, leb, eqb}
 use Rattle.rules.specs.Types.{Point, Pen, Due, First, Second, Third, Past, Rotation, Degrees0, Degrees90, Degrees180, Degrees270}
 use Rattle.rules.specs.Types.{Path, Right, Left, Up, Down, Spacing, One, FiveFourths, ThreeHalves, Proportional}
 use Rattle.rules.specs.Types.{Interrow, OneRow, FiveFourthsRow, ThreeHalvesRow, TwoRows}

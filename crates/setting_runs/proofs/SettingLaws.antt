@@ -1,5 +1,6 @@
 -- TEXT's operands in a run.
-use Rattle.setting_runs.specs.Prelude.{ℕ, zero, suc, ◌+◌, ◌/◌, ◌≤◌, ◌<◌, add-zero, arith, ◌≡◌, refl, sym, ap, ◌∙◌, subst, false, List, [], length, get_or, take, drop, get_or-drop, get_or-take}
+use Rattle.std.specs.Prelude.{◌+◌, ◌/◌, ◌≤◌, ◌<◌, ◌≡◌}
+use Rattle.setting_runs.specs.Prelude.{ℕ, zero, suc, add-zero, arith, refl, sym, ap, ◌∙◌, subst, false, List, [], length, get_or, take, drop, get_or-drop, get_or-take}
 use Rattle.rules.specs.declared.Command.{Command}
 use Rattle.rules.specs.declared.Due.TheVariants.{First, Second, Third}
 use Rattle.rules.specs.declared.Drawing.{Drawing}

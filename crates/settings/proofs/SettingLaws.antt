@@ -1,5 +1,6 @@
 -- The settings of TEXT by their codes, and TEXT closed
-use Rattle.settings.proofs.Prelude.{ℕ, ◌≡◌, sym, ap, ◌∙◌, eq-eqb, ne_eqb}
+use Rattle.std.specs.Prelude.{◌≡◌}
+use Rattle.settings.proofs.Prelude.{ℕ, sym, ap, ◌∙◌, eq-eqb, ne_eqb}
 use Rattle.rules.specs.declared.Coordinate.{Coordinate}
 use Rattle.rules.specs.declared.Due.{Due}
 use Rattle.rules.specs.declared.Due.TheVariants.{First, Second, Third, Past}

@@ -1,5 +1,6 @@
 -- A step by its parts: the body read on, a call, an action, and the reaction that leads to them
-use Rattle.steps.specs.Prelude.{ℕ, zero, suc, ◌+◌, ◌-◌, ◌≤◌, ◌<◌, add-zero, add-one, sub-one, ◌≡◌, refl, sym, ap, ◌∙◌, Bool, true, false, List, [], ◌⊎◌, inl, inr, set, eqb, lt-ltb, le-ltb, ◌&&◌}
+use Rattle.std.specs.Prelude.{◌+◌, ◌-◌, ◌≤◌, ◌<◌, ◌≡◌, ◌⊎◌, ◌&&◌}
+use Rattle.steps.specs.Prelude.{ℕ, zero, suc, add-zero, add-one, sub-one, refl, sym, ap, ◌∙◌, Bool, true, false, List, [], inl, inr, set, eqb, lt-ltb, le-ltb}
 use Rattle.rules.specs.declared.Action.{Action}
 use Rattle.rules.specs.declared.Action.TheVariants.{Idle}
 use Rattle.rules.specs.declared.Bodies.{Bodies}

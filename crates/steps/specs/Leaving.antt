@@ -1,5 +1,6 @@
 -- The turn of the rules by its parts, and what it leaves
-use Rattle.steps.specs.Prelude.{ℕ, zero, suc, ◌+◌, Bool, true, false, List, [], ◌∷◌, length, get_or}
+use Rattle.std.specs.Prelude.{◌+◌, ◌∷◌}
+use Rattle.steps.specs.Prelude.{ℕ, zero, suc, Bool, true, false, List, [], length, get_or}
 use Rattle.rules.specs.declared.Bodies.{Bodies}
 use Rattle.rules.specs.declared.Cursor.{Cursor}
 use Rattle.rules.specs.declared.Read.{Read}

@@ -1,5 +1,6 @@
 -- The state of a reading as the code holds it: in parts, with the drawing state and the arrays beside them
-use Rattle.steps.specs.Prelude.{ℕ, ◌≤◌, ◌<◌, Bool, true, false, ◌≡◌, List}
+use Rattle.std.specs.Prelude.{◌≤◌, ◌<◌, ◌≡◌}
+use Rattle.steps.specs.Prelude.{ℕ, Bool, true, false, List}
 use Rattle.rules.specs.declared.Bodies.{Bodies}
 use Rattle.rules.specs.declared.Coding.{Coding}
 use Rattle.rules.specs.declared.Cursor.{Cursor}

@@ -1,5 +1,6 @@
 -- Laws of cells. No other file knows where the parts of a cell lie.
-use Rattle.store.specs.Prelude.{◌≡◌, sym, ap, ◌∙◌, true, List, ◌∷◌, ◌++◌, append-nil, append_assoc, ℕ, zero, suc, ◌+◌, ◌*◌, ◌-◌, ◌<◌, ◌≤◌, arith, length, set, replicate, length-set, replicate-append-replicate, get_or-set_same, get_or-set_other}
+use Rattle.std.specs.Prelude.{◌≡◌, ◌∷◌, ◌++◌, ◌+◌, ◌*◌, ◌-◌, ◌<◌, ◌≤◌}
+use Rattle.store.specs.Prelude.{sym, ap, ◌∙◌, true, List, append-nil, append_assoc, ℕ, zero, suc, arith, length, set, replicate, length-set, replicate-append-replicate, get_or-set_same, get_or-set_other}
 use Rattle.rules.specs.Store.{next_of, set_next, count_of, set_count, good_count, set_body_byte, linked, fresh_store}
 use Rattle.rules.proofs.Lists.{set_past}
 use Rattle.rules.proofs.Spans.{inside, least, most}

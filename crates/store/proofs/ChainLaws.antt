@@ -1,5 +1,6 @@
 -- Laws of chains: the walk to the last cell, and freeing from what the calls hand back.
-use Rattle.store.specs.Prelude.{◌≡◌, refl, List, ℕ, zero, suc, ◌-◌, ◌<◌, ◌≤◌, not-suc-le-zero, sub-one, eq-eqb, ne_eqb}
+use Rattle.std.specs.Prelude.{◌≡◌, ◌-◌, ◌<◌, ◌≤◌}
+use Rattle.store.specs.Prelude.{refl, List, ℕ, zero, suc, not-suc-le-zero, sub-one, eq-eqb, ne_eqb}
 use Rattle.rules.specs.declared.Chain.TheVariants.{Ends, TooLong}
 use Rattle.rules.specs.declared.Refusal.TheVariants.{OutOfRange}
 use Rattle.rules.specs.Store.{next_of, set_next, last_cell, NotFreed, Freed, free_to, free_body}

@@ -1,5 +1,6 @@
 -- Laws of consecutive bytes: a run goes on by a byte and by a run, and may be seen as a run of other steps.
-use Rattle.store.specs.Prelude.{◌≡◌, List, ℕ, zero, suc, ◌+◌, add-one, arith, get_or}
+use Rattle.std.specs.Prelude.{◌≡◌, ◌+◌}
+use Rattle.store.specs.Prelude.{List, ℕ, zero, suc, add-one, arith, get_or}
 use Rattle.store.specs.Each.{Each, none, more}
 
 module _ {X : Type 0} {Step : ℕ → X → X → Type 0} (bytes : List ℕ) (from : ℕ) {x : X} (n : ℕ) where

@@ -1,5 +1,6 @@
 -- Laws of runs: bytes laid into a cell.
-use Rattle.store.specs.Prelude.{◌≡◌, List, ℕ, ◌+◌, ◌*◌, add-one, arith, get_or, set}
+use Rattle.std.specs.Prelude.{◌≡◌, ◌+◌, ◌*◌}
+use Rattle.store.specs.Prelude.{List, ℕ, add-one, arith, get_or, set}
 use Rattle.rules.specs.Store.{set_body_byte}
 use Rattle.store.specs.Runs.{Plain, Laid, more}
 

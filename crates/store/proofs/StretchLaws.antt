@@ -1,5 +1,6 @@
 -- A stretch of the store: none, or what is left of a cell that can be read
-use Rattle.store.specs.Prelude.{ℕ, ◌+◌, ◌*◌, ◌<◌, ◌≤◌, add-suc, add_assoc, arith, ◌≡◌, true, List, length, ne_eqb, lt-ltb, le-leb}
+use Rattle.std.specs.Prelude.{◌+◌, ◌*◌, ◌<◌, ◌≤◌, ◌≡◌}
+use Rattle.store.specs.Prelude.{ℕ, add-suc, add_assoc, arith, true, List, length, ne_eqb, lt-ltb, le-leb}
 use Rattle.rules.specs.declared.Cursor.{Cursor}
 use Rattle.rules.specs.Numbers.{store_size, most_bytes}
 use Rattle.rules.specs.Store.{count_of, body_byte, good_count}

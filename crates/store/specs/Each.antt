@@ -1,5 +1,6 @@
 -- Consecutive bytes, each a step of its own
-use Rattle.store.specs.Prelude.{ℕ, zero, suc, ◌+◌, List, get_or}
+use Rattle.std.specs.Prelude.{◌+◌}
+use Rattle.store.specs.Prelude.{ℕ, zero, suc, List, get_or}
 
 -- So many bytes from a place on lead from x to another state
 pub data Each {X : Type 0} (Step : ℕ → X → X → Type 0) (bytes : List ℕ) (from : ℕ) (x : X) : ℕ → X → Type 0 where

@@ -1,5 +1,6 @@
 -- An answer to freeing a body, with the store left, as the rule has it
-use Rattle.store.specs.Prelude.{ℕ, List, ◌≡◌}
+use Rattle.std.specs.Prelude.{◌≡◌}
+use Rattle.store.specs.Prelude.{ℕ, List}
 use Rattle.rules.specs.Store.{Freeing, NotFreed, Freed}
 use Rattle.store.specs.declared.chains.FreeAnswer.{FreeAnswer}
 use Rattle.store.specs.declared.chains.FreeAnswer.TheVariants.{Done, Refused}

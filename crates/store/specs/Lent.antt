@@ -1,5 +1,6 @@
 -- What the functions ask of what they are lent
-use Rattle.store.specs.Prelude.{ℕ, ◌≤◌, List, ◌≡◌, length}
+use Rattle.std.specs.Prelude.{◌≤◌, ◌≡◌}
+use Rattle.store.specs.Prelude.{ℕ, List, length}
 use Rattle.rules.specs.Numbers.{store_size}
 
 -- "a store of exactly 8,192 bytes"

@@ -1,5 +1,6 @@
 -- Runs: consecutive bytes of a definition
-use Rattle.store.specs.Prelude.{ℕ, zero, suc, ◌+◌, ◌≤◌, List, ◌≡◌, get_or}
+use Rattle.std.specs.Prelude.{◌+◌, ◌≤◌, ◌≡◌}
+use Rattle.store.specs.Prelude.{ℕ, zero, suc, List, get_or}
 use Rattle.rules.specs.Numbers.{esc}
 use Rattle.rules.specs.Store.{Filling, Stored, set_body_byte, store_byte}
 use Rattle.store.specs.Each.{Each}

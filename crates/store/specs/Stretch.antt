@@ -1,5 +1,6 @@
 -- A stretch of the store: the next bytes of a body, as far as they lie in one cell
-use Rattle.store.specs.Prelude.{ℕ, suc, ◌+◌, true, List, ◌≡◌, get_or}
+use Rattle.std.specs.Prelude.{◌+◌, ◌≡◌}
+use Rattle.store.specs.Prelude.{ℕ, suc, true, List, get_or}
 use Rattle.rules.specs.declared.Cursor.{Cursor}
 use Rattle.rules.specs.declared.Read.TheVariants.{Byte}
 use Rattle.rules.specs.Bodies.{has_left, read_body}

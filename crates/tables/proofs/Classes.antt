@@ -1,5 +1,6 @@
 -- The classes of bytes, by stretches of the controls that do the same.
-use Rattle.tables.proofs.Prelude.{ℕ, zero, suc, ◌+◌, ◌-◌, ◌<◌, ◌≤◌, zero-add, suc-add, arith, ◌≡◌, refl, sym, ap, ◌∙◌, Bool, true, false, List, [], ◌∷◌, get_or, take, drop, replicate, get_or-replicate, get_or-take, ltb, lt-ltb, le-ltb, ltb-true}
+use Rattle.std.specs.Prelude.{◌+◌, ◌-◌, ◌<◌, ◌≤◌, ◌≡◌, ◌∷◌}
+use Rattle.tables.proofs.Prelude.{ℕ, zero, suc, zero-add, suc-add, arith, refl, sym, ap, ◌∙◌, Bool, true, false, List, [], get_or, take, drop, replicate, get_or-replicate, get_or-take, ltb, lt-ltb, le-ltb, ltb-true}
 use Rattle.rules.specs.declared.Class.{Class}
 use Rattle.rules.specs.declared.Class.TheVariants.{Below, Column2, Above}
 use Rattle.rules.specs.declared.Control.{Control}

@@ -1,5 +1,6 @@
 -- The `_` arm of a match on an enum: at each variant that it stands for, by its number, the rule is what the arm answers.
-use Rattle.tables.proofs.Prelude.{◌≡◌, refl, true, false, List, [], ◌∷◌, ℕ}
+use Rattle.std.specs.Prelude.{◌≡◌, ◌∷◌}
+use Rattle.tables.proofs.Prelude.{refl, true, false, List, [], ℕ}
 use types.Run.{OneOf, miss}
 use denote.Enum.Declared.{tag_of}
 use Rattle.rules.specs.contracts.Waiting.{the_type as the-waiting}

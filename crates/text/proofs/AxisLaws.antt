@@ -1,5 +1,6 @@
 -- What the code's tests and sums say of the rules on one axis, and of cursor and point
-use Rattle.text.specs.Prelude.{ℕ, ◌+◌, ◌*◌, ◌-◌, ◌/◌, ◌^◌, ◌<◌, ◌≤◌, ◌≡◌, sym, ap, ap₂, ◌∙◌, Bool, true, false, arith}
+use Rattle.std.specs.Prelude.{◌+◌, ◌*◌, ◌-◌, ◌/◌, ◌^◌, ◌<◌, ◌≤◌, ◌≡◌}
+use Rattle.text.specs.Prelude.{ℕ, sym, ap, ap₂, ◌∙◌, Bool, true, false, arith}
 use Rattle.text.specs.Prelude.{mul-le-mul, leb, lt-ltb, le-ltb, le-leb, lt-leb}
 use Rattle.rules.specs.declared.Coordinate.{Coordinate}
 use Rattle.rules.specs.declared.FieldBox.{FieldBox}

@@ -1,6 +1,7 @@
 -- Characters on one line: each advances the cursor by one stride, which is a step of the packed cursor
-use Rattle.text_lines.specs.Prelude.{ℕ, zero, suc, ◌+◌, ◌*◌, ◌-◌, ◌/◌, ◌%◌, ◌^◌, ◌<◌, ◌≤◌, ◌≡◌, refl, sym, ap, ◌∙◌, subst, Bool, true, false, ◌&&◌}
-use Rattle.text_lines.specs.Prelude.{arith, leb, le-leb, eqb, eqb-true, zero-mul, suc-mul, le_trans, mul-le-mul_right, div-mul-le_self}
+use Rattle.std.specs.Prelude.{◌+◌, ◌*◌, ◌-◌, ◌/◌, ◌%◌, ◌^◌, ◌<◌, ◌≤◌, ◌≡◌}
+use Rattle.text_lines.specs.Prelude.{ℕ, zero, suc, refl, sym, ap, ◌∙◌, subst, Bool, true, false}
+use Rattle.text_lines.specs.Prelude.{arith, le-leb, eqb, eqb-true, zero-mul, suc-mul, le_trans, mul-le-mul_right, div-mul-le_self}
 use Rattle.rules.specs.declared.Coordinate.{Coordinate}
 use Rattle.rules.specs.declared.FieldBox.{FieldBox}
 use Rattle.rules.specs.declared.Operand.{Operand}

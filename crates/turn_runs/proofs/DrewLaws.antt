@@ -1,5 +1,6 @@
 -- The tip after a run, put together with a text
-use Rattle.turn_runs.specs.Prelude.{ℕ, zero, suc, ◌+◌, ◌≤◌, add-one, arith, Bool, true, false, List, length, get_or, ◌≡◌, refl, sym, ap, ◌∙◌, subst}
+use Rattle.std.specs.Prelude.{◌+◌, ◌≤◌, ◌≡◌}
+use Rattle.turn_runs.specs.Prelude.{ℕ, zero, suc, add-one, arith, Bool, true, false, List, length, get_or, refl, sym, ap, ◌∙◌, subst}
 use Rattle.rules.specs.declared.Command.{Command}
 use Rattle.rules.specs.declared.Look.{Look}
 use Rattle.rules.specs.declared.Operand.{Operand}

@@ -1,5 +1,6 @@
 -- Runs of bytes that are drawn, over the parts that the code holds
-use Rattle.turn_runs.specs.Prelude.{ℕ, zero, suc, ◌+◌, ◌-◌, ◌≤◌, ◌<◌, add-zero, arith, ◌≡◌, refl, sym, ap, ◌∙◌, subst, Bool, true, false, List, length, get_or, set, set-get_or, ltb, ltb-true, ltb-false, lt-ltb, le-ltb}
+use Rattle.std.specs.Prelude.{◌+◌, ◌-◌, ◌≤◌, ◌<◌, ◌≡◌}
+use Rattle.turn_runs.specs.Prelude.{ℕ, zero, suc, add-zero, arith, refl, sym, ap, ◌∙◌, subst, Bool, true, false, List, length, get_or, set, set-get_or, ltb, ltb-true, ltb-false, lt-ltb, le-ltb}
 use Rattle.rules.specs.declared.Action.TheVariants.{Cancel}
 use Rattle.rules.specs.declared.Coding.{Coding}
 use Rattle.rules.specs.declared.Command.{Command}

@@ -1,5 +1,6 @@
 -- A CAN after a run
-use Rattle.turn_runs.specs.Prelude.{ℕ, suc, ◌+◌, ◌≤◌, List, ◌≡◌, length, get_or, ltb}
+use Rattle.std.specs.Prelude.{◌+◌, ◌≤◌, ◌≡◌}
+use Rattle.turn_runs.specs.Prelude.{ℕ, suc, List, length, get_or, ltb}
 use Rattle.rules.specs.declared.Action.TheVariants.{Cancel}
 use Rattle.rules.specs.declared.Look.{Look}
 use Rattle.rules.specs.declared.Text.{Text}

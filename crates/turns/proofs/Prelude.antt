@@ -1,8 +1,8 @@
 -- What the files of this crate use of the libraries, under one name
-pub use mathlib.Core.Path.{◌≡◌, refl, sym, ap, ◌∙◌}
+pub use mathlib.Core.Path.{refl, sym, ap, ◌∙◌}
 pub use mathlib.Core.Bool.{Bool, true, false}
-pub use mathlib.Core.List.{List, [], ◌∷◌}
-pub use Prim.Native.Nat.{ℕ, ◌≤◌, ◌<◌, zero, suc, ◌+◌, ◌-◌}
+pub use mathlib.Core.List.{List, []}
+pub use Prim.Native.Nat.{ℕ, zero, suc}
 pub use native.Mathlib.Nat.{add-zero}
 pub use native.Mathlib.Numerals.{add-one, sub-one}
 pub use native.Mathlib.Omega.{arith}

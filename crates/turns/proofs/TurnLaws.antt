@@ -1,5 +1,6 @@
 -- A turn by its parts: whether something is left, the byte that is next, and each way in which the turn comes out
-use Rattle.turns.proofs.Prelude.{ℕ, zero, suc, ◌+◌, ◌-◌, ◌≤◌, ◌<◌, add-zero, add-one, sub-one, arith, ◌≡◌, refl, sym, ap, ◌∙◌, Bool, true, false, List, [], ◌∷◌, length, drop, get_or, drop_of_length-le, drop-cons, get_or-drop, ltb, leb, lt-ltb, le-ltb, leb-true, leb-false}
+use Rattle.std.specs.Prelude.{◌+◌, ◌-◌, ◌≤◌, ◌<◌, ◌≡◌, ◌∷◌}
+use Rattle.turns.proofs.Prelude.{ℕ, zero, suc, add-zero, add-one, sub-one, arith, refl, sym, ap, ◌∙◌, Bool, true, false, List, [], length, drop, get_or, drop_of_length-le, drop-cons, get_or-drop, ltb, leb, lt-ltb, le-ltb, leb-true, leb-false}
 use Rattle.rules.specs.declared.Answer.TheVariants.{Done, Full, Refused}
 use Rattle.rules.specs.declared.Bodies.{Bodies}
 use Rattle.rules.specs.declared.Cursor.{Cursor}

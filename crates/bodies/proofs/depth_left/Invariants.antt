@@ -1,4 +1,4 @@
-use Rattle.bodies.specs.Prelude.{◌≡◌, ◌≤◌}
+use Rattle.std.specs.Prelude.{◌≡◌, ◌≤◌}
 use Rattle.rules.specs.Bodies.{depth_left}
 use Rattle.bodies.specs.Stack.{bodies_of}
 use Rattle.bodies.proofs.depth_left.Given as goal

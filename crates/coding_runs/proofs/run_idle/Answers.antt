@@ -1,4 +1,4 @@
-use Rattle.coding_runs.specs.Prelude.{sym, ◌∙◌, ◌-◌, arith}
+use Rattle.coding_runs.specs.Prelude.{sym, ◌∙◌, arith}
 use Rattle.store.specs.Each.{none}
 use Rattle.store.proofs.EachLaws.{each_on, each_join}
 use Rattle.coding_runs.proofs.IdleLaws.{idle_fits, idle_still, idle_reacts, busy_keeps}

@@ -1,4 +1,5 @@
-use Rattle.coding_runs.specs.Prelude.{◌≡◌, ◌+◌, ◌-◌, ◌≤◌, length}
+use Rattle.std.specs.Prelude.{◌≡◌, ◌+◌, ◌-◌, ◌≤◌}
+use Rattle.coding_runs.specs.Prelude.{length}
 use Rattle.coding_runs.specs.Idle.{Idle, coded}
 use Rattle.reactions.specs.View.{coding_of}
 use Rattle.coding_runs.proofs.run_idle.Given as goal

@@ -1,4 +1,5 @@
-use Rattle.command_runs.proofs.Prelude.{arith, refl, sym, ap, ◌∙◌, ◌+◌, ◌-◌}
+use Rattle.std.specs.Prelude.{◌+◌, ◌-◌}
+use Rattle.command_runs.proofs.Prelude.{arith, refl, sym, ap, ◌∙◌}
 use Rattle.rules.specs.declared.Command.{Command}
 use Rattle.rules.specs.Drawing.{row_of}
 use Rattle.figures.specs.Tracing.{Inks, pen_at}

@@ -1,4 +1,5 @@
-use Rattle.command_runs.proofs.Prelude.{◌≡◌, Bool, List, ℕ, ◌-◌, ◌≤◌, length}
+use Rattle.std.specs.Prelude.{◌≡◌, ◌-◌, ◌≤◌}
+use Rattle.command_runs.proofs.Prelude.{Bool, List, ℕ, length}
 use Rattle.rules.specs.declared.Command.{Command}
 use Rattle.rules.specs.declared.Domain.{Domain}
 use Rattle.rules.specs.declared.Look.{Look}

@@ -1,4 +1,5 @@
-use Rattle.digits.specs.Prelude.{◌/◌, arith}
+use Rattle.std.specs.Prelude.{◌/◌}
+use Rattle.digits.specs.Prelude.{arith}
 use Rattle.digits.proofs.Places.{joined}
 use Rattle.digits.proofs.Decimals.{decimal_length, last_four}
 use Rattle.digits.proofs.put_middle.Goals as goal

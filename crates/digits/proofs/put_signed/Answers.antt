@@ -1,4 +1,5 @@
-use Rattle.digits.specs.Prelude.{arith, lt-ltb, le-ltb, ◌≡◌, ◌+◌, ◌-◌}
+use Rattle.std.specs.Prelude.{◌≡◌, ◌+◌, ◌-◌}
+use Rattle.digits.specs.Prelude.{arith, lt-ltb, le-ltb}
 use Rattle.digits.proofs.Places.{joined}
 use Rattle.digits.proofs.Decimals.{one_digit}
 use Rattle.digits.specs.Decimal.{signed_decimal}

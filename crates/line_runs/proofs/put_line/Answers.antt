@@ -1,4 +1,4 @@
-use Rattle.line_runs.specs.Prelude.{refl, ◌-◌, arith, ◌∙◌}
+use Rattle.line_runs.specs.Prelude.{refl, arith, ◌∙◌}
 use Rattle.line_runs.proofs.CharacterLaws.{line_none, line_on, line_all}
 use Rattle.line_runs.proofs.put_line.Goals as goal
 

@@ -1,4 +1,5 @@
-use Rattle.line_runs.specs.Prelude.{◌≡◌, ◌≤◌, ◌-◌, length}
+use Rattle.std.specs.Prelude.{◌≡◌, ◌≤◌, ◌-◌}
+use Rattle.line_runs.specs.Prelude.{length}
 use Rattle.rules.specs.declared.Text.{Text}
 use Rattle.line_runs.proofs.CharacterLaws.{LineFrom, OnLine}
 use Rattle.line_runs.proofs.put_line.Given as goal

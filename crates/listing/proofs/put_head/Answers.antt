@@ -1,4 +1,5 @@
-use Rattle.listing.specs.Prelude.{arith, add-one, ◌≡◌, refl, lt-ltb}
+use Rattle.std.specs.Prelude.{◌≡◌}
+use Rattle.listing.specs.Prelude.{arith, add-one, refl, lt-ltb}
 use Rattle.digits.proofs.Decimals.{decimal_length}
 use Rattle.digits.proofs.Places.{nothing, joined}
 use Rattle.listing.specs.Text.{field_of, separator, fields_to}

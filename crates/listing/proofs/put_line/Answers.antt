@@ -1,6 +1,7 @@
 use Rattle.digits.proofs.Places.{joined}
 use Rattle.listing.specs.Text.{field_of, fields_to}
-use Rattle.listing.specs.Prelude.{arith, add-one, ◌≡◌, refl, le-ltb}
+use Rattle.std.specs.Prelude.{◌≡◌}
+use Rattle.listing.specs.Prelude.{arith, add-one, refl, le-ltb}
 use Rattle.std.proofs.Common.{rules}
 use Rattle.listing.proofs.put_line.Goals as goal
 

@@ -1,6 +1,7 @@
 use Rattle.digits.specs.Decimal.{Put}
 use Rattle.listing.specs.Text.{fields_to}
-use Rattle.listing.specs.Prelude.{◌≡◌, List, ℕ, ◌+◌, ◌*◌, ◌-◌, ◌≤◌, length}
+use Rattle.std.specs.Prelude.{◌≡◌, ◌+◌, ◌*◌, ◌-◌, ◌≤◌}
+use Rattle.listing.specs.Prelude.{List, ℕ, length}
 use Rattle.listing.proofs.put_line.Given as goal
 
 -- Whatever text the head was put into, the fields so far are put into it

@@ -1,4 +1,5 @@
-use Rattle.listing.specs.Prelude.{arith, add-one, ◌≡◌, refl, ap, ℕ, ◌+◌, ◌*◌, ◌-◌, ◌/◌, length, min-le_right}
+use Rattle.std.specs.Prelude.{◌≡◌, ◌+◌, ◌*◌, ◌-◌, ◌/◌}
+use Rattle.listing.specs.Prelude.{arith, add-one, refl, ap, ℕ, length, min-le_right}
 use Rattle.digits.proofs.Places.{nothing, joined}
 use Rattle.listing.proofs.Places.{counts, record_fits}
 use Rattle.listing.specs.Text.{lines_to}

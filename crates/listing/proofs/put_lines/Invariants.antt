@@ -1,4 +1,5 @@
-use Rattle.listing.specs.Prelude.{List, ◌≡◌, ℕ, ◌*◌, ◌-◌, ◌≤◌, length}
+use Rattle.std.specs.Prelude.{◌≡◌, ◌*◌, ◌-◌, ◌≤◌}
+use Rattle.listing.specs.Prelude.{List, ℕ, length}
 use Rattle.digits.specs.Decimal.{Put}
 use Rattle.listing.specs.Text.{lines_to}
 use Rattle.listing.proofs.put_lines.Given as goal

@@ -1,4 +1,5 @@
-use Rattle.opcodes.proofs.Prelude.{◌-◌, ◌∙◌}
+use Rattle.std.specs.Prelude.{◌-◌}
+use Rattle.opcodes.proofs.Prelude.{◌∙◌}
 use Rattle.rules.specs.Drawing.{rows, other}
 use Rattle.rules.proofs.OpcodeRows.{row_at}
 use Rattle.rules.proofs.Tables.{at, before, past}

@@ -1,4 +1,5 @@
-use Rattle.operands.specs.Prelude.{ℕ, ◌≡◌, refl, sym, ap, ◌∙◌, ◌-◌, arith, get_or}
+use Rattle.std.specs.Prelude.{◌≡◌}
+use Rattle.operands.specs.Prelude.{ℕ, refl, sym, ap, ◌∙◌, arith, get_or}
 use Rattle.rules.specs.Operands.{from_top, begun}
 use Rattle.operands.specs.declared.Hue.{Hue}
 use Rattle.operands.specs.Steps.{with_tuples}

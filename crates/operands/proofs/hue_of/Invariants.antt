@@ -1,4 +1,5 @@
-use Rattle.operands.specs.Prelude.{ℕ, ◌≡◌, ◌≤◌, ◌-◌}
+use Rattle.std.specs.Prelude.{◌≡◌, ◌≤◌, ◌-◌}
+use Rattle.operands.specs.Prelude.{ℕ}
 use Rattle.rules.specs.Operands.{begun}
 use Rattle.rules.specs.declared.Operand.{Operand}
 use Rattle.operands.specs.declared.Hue.{Hue}

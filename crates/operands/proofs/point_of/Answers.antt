@@ -1,4 +1,5 @@
-use Rattle.operands.specs.Prelude.{◌≡◌, arith, length, length-take}
+use Rattle.std.specs.Prelude.{◌≡◌}
+use Rattle.operands.specs.Prelude.{arith, length, length-take}
 use Rattle.rules.specs.Operands.{begun}
 use Rattle.std.proofs.Common.{rules}
 use Rattle.operands.proofs.point_of.Goals as goal

@@ -1,4 +1,4 @@
-use Rattle.operands.specs.Prelude.{refl, sym, ap, ◌∙◌, ◌-◌, get_or, take_all}
+use Rattle.operands.specs.Prelude.{refl, sym, ap, ◌∙◌, get_or, take_all}
 use Rattle.rules.specs.Operands.{bits_of, from_top, point}
 use Rattle.operands.specs.Steps.{joined}
 use Rattle.operands.proofs.Operands.{point_next}

@@ -1,4 +1,5 @@
-use Rattle.operands.specs.Prelude.{◌≡◌, ◌≤◌, ◌-◌, length, take}
+use Rattle.std.specs.Prelude.{◌≡◌, ◌≤◌, ◌-◌}
+use Rattle.operands.specs.Prelude.{length, take}
 use Rattle.rules.specs.Operands.{point}
 use Rattle.operands.proofs.read_point.Given as goal
 

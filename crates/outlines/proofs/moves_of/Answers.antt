@@ -1,4 +1,5 @@
-use Rattle.outlines.specs.Prelude.{◌||◌, eqb, sym, ◌∙◌, arith}
+use Rattle.std.specs.Prelude.{◌||◌}
+use Rattle.outlines.specs.Prelude.{eqb, sym, ◌∙◌, arith}
 use Rattle.outlines.proofs.TrailLaws.{one_move, no_move}
 use Rattle.outlines.proofs.moves_of.Goals as goal
 

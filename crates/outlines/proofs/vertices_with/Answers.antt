@@ -1,4 +1,5 @@
-use Rattle.outlines.specs.Prelude.{◌/◌, ◌%◌, Bool, ◌||◌, eqb, arith, ap, ◌∙◌}
+use Rattle.std.specs.Prelude.{◌/◌, ◌%◌, ◌||◌}
+use Rattle.outlines.specs.Prelude.{Bool, eqb, arith, ap, ◌∙◌}
 use Rattle.rules.specs.declared.Outline.TheVariants.{Polygon}
 use Rattle.rules.specs.Choice.{pick}
 use Rattle.rules.specs.Increments.{changes_after}

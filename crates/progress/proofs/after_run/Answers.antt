@@ -1,4 +1,5 @@
-use Rattle.progress.specs.Prelude.{arith, sym, ap, ℕ, ◌+◌}
+use Rattle.std.specs.Prelude.{◌+◌}
+use Rattle.progress.specs.Prelude.{arith, sym, ap, ℕ}
 use Rattle.progress.proofs.ProgressLaws.{placed_piece, placed_body}
 use Rattle.progress.proofs.after_run.Goals as goal
 

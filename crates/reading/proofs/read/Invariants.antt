@@ -1,4 +1,4 @@
-use Rattle.reading.proofs.Prelude.{◌-◌}
+use Rattle.std.specs.Prelude.{◌-◌}
 use Rattle.pens.specs.Tips.{pen_of}
 use Rattle.pens.specs.Words.{text_from}
 use Rattle.figures.specs.Carried.{drawing_of}

@@ -1,4 +1,5 @@
-use Rattle.records.specs.Prelude.{ap, ap₂, ◌∙◌, List, ◌++◌, ℕ}
+use Rattle.std.specs.Prelude.{◌++◌}
+use Rattle.records.specs.Prelude.{ap, ap₂, ◌∙◌, List, ℕ}
 use Rattle.records.specs.Bytes.{overwrite}
 use Rattle.records.proofs.Heads.{record_bytes}
 use Rattle.records.proofs.put_record.Goals as goal

@@ -1,4 +1,5 @@
-use Rattle.records.specs.Prelude.{◌++◌, ◌≤◌, le_trans, le-add_right, length}
+use Rattle.std.specs.Prelude.{◌++◌, ◌≤◌}
+use Rattle.records.specs.Prelude.{le_trans, le-add_right, length}
 use Rattle.rules.specs.Record.{word, words}
 use Rattle.records.specs.Bytes.{head_bytes}
 use Rattle.records.proofs.Writes.{then}

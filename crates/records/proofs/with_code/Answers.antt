@@ -1,4 +1,5 @@
-use Rattle.records.specs.Prelude.{ap, List, ◌++◌, ℕ, arith}
+use Rattle.std.specs.Prelude.{◌++◌}
+use Rattle.records.specs.Prelude.{ap, List, ℕ, arith}
 use Rattle.rules.specs.Record.{word}
 use Rattle.records.proofs.Heads.{recoded}
 use Rattle.records.proofs.with_code.Goals as goal

@@ -1,4 +1,4 @@
-use Rattle.setting_runs.specs.Prelude.{◌-◌, arith, refl, ap, ◌∙◌}
+use Rattle.setting_runs.specs.Prelude.{arith, refl, ap, ◌∙◌}
 use Rattle.rules.specs.declared.Command.{Command}
 use Rattle.setting_runs.proofs.SettingLaws.{none_set, sets_on, sets_then, sets_end, command_on}
 use Rattle.setting_runs.proofs.put_operands.Goals as goal

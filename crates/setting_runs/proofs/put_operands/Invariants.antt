@@ -1,4 +1,4 @@
-use Rattle.setting_runs.specs.Prelude.{◌+◌, ◌-◌, ◌≤◌, ◌≡◌}
+use Rattle.std.specs.Prelude.{◌+◌, ◌-◌, ◌≤◌, ◌≡◌}
 use Rattle.rules.specs.declared.Look.{Look}
 use Rattle.pens.specs.Words.{text_from}
 use Rattle.setting_runs.specs.Settings.{SetsTo}

@@ -2,7 +2,8 @@ use Rattle.rules.specs.declared.Sets.{Sets}
 use Rattle.progress.specs.Progress.{steps_to}
 use Rattle.reactions.specs.View.{sets_after}
 use Rattle.steps.proofs.StepLaws.{ends_due, call_deep, call_goes, call_sets}
-use Rattle.steps.specs.Prelude.{◌+◌, ap, ◌∙◌}
+use Rattle.std.specs.Prelude.{◌+◌}
+use Rattle.steps.specs.Prelude.{ap, ◌∙◌}
 use Rattle.steps.proofs.call.Goals as goal
 
 pub returns-then-depth-ge-MOST_DEPTH : goal.returns-then-depth-ge-MOST_DEPTH

@@ -1,4 +1,5 @@
-use Rattle.text_runs.proofs.Prelude.{ℕ, ◌+◌, arith, subst, get_or}
+use Rattle.std.specs.Prelude.{◌+◌}
+use Rattle.text_runs.proofs.Prelude.{ℕ, arith, subst, get_or}
 use Rattle.line_runs.specs.Characters.{IsCharacter}
 use Rattle.line_runs.proofs.CharacterLaws.{goes_then, some_more}
 use Rattle.text_runs.proofs.put_some.Goals as goal

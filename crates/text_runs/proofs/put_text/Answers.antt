@@ -1,4 +1,4 @@
-use Rattle.text_runs.proofs.Prelude.{refl, ◌-◌, ◌∙◌, arith}
+use Rattle.text_runs.proofs.Prelude.{refl, ◌∙◌, arith}
 use Rattle.line_runs.proofs.CharacterLaws.{goes_all, puts_none, puts_then}
 use Rattle.text_runs.proofs.put_text.Goals as goal
 

@@ -1,4 +1,5 @@
-use Rattle.text_runs.proofs.Prelude.{◌≡◌, ◌≤◌, ◌-◌, length}
+use Rattle.std.specs.Prelude.{◌≡◌, ◌≤◌, ◌-◌}
+use Rattle.text_runs.proofs.Prelude.{length}
 use Rattle.line_runs.specs.Characters.{pen_of, Puts}
 use Rattle.text_runs.proofs.put_text.Given as goal
 

@@ -1,4 +1,5 @@
-use Rattle.text_runs.proofs.Prelude.{◌-◌, arith, refl}
+use Rattle.std.specs.Prelude.{◌-◌}
+use Rattle.text_runs.proofs.Prelude.{arith, refl}
 use Rattle.line_runs.proofs.CharacterLaws.{puts_run, ran_none, ran_some}
 use Rattle.text_runs.proofs.run_text.Goals as goal
 

@@ -1,4 +1,4 @@
-use Rattle.bodies.specs.Prelude.{not-suc-le-zero, arith, ◌-◌}
+use Rattle.bodies.specs.Prelude.{not-suc-le-zero, arith}
 use Rattle.bodies.proofs.StackLaws.{calls_more}
 use Rattle.bodies.proofs.calls.empty_calls.Goals as goal
 

@@ -1,4 +1,4 @@
-use Rattle.bodies.specs.Prelude.{◌-◌, ◌≤◌}
+use Rattle.std.specs.Prelude.{◌-◌, ◌≤◌}
 use Rattle.bodies.specs.Calls.{CallsEmpty}
 use Rattle.bodies.proofs.calls.empty_calls.Given as goal
 

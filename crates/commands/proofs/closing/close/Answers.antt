@@ -1,4 +1,5 @@
-use Rattle.commands.proofs.Prelude.{arith, ◌≡◌, refl, sym, ◌∙◌, false}
+use Rattle.std.specs.Prelude.{◌≡◌}
+use Rattle.commands.proofs.Prelude.{arith, refl, sym, ◌∙◌, false}
 use Rattle.rules.specs.Drawing.{complete, finish}
 use Rattle.figures.specs.Carried.{Carried, carry, drawing_of}
 use Rattle.figures.proofs.Carrying.{puts_carried}

@@ -1,4 +1,4 @@
-use Rattle.definitions.specs.Prelude.{◌-◌, arith}
+use Rattle.definitions.specs.Prelude.{arith}
 use Rattle.store.specs.Each.{none}
 use Rattle.store.proofs.EachLaws.{each_on, each_join}
 use Rattle.definitions.proofs.StoringLaws.{byte_stored, refused_keeps}

@@ -1,4 +1,5 @@
-use Rattle.definitions.specs.Prelude.{◌≡◌, ◌+◌, ◌-◌, ◌≤◌, length}
+use Rattle.std.specs.Prelude.{◌≡◌, ◌+◌, ◌-◌, ◌≤◌}
+use Rattle.definitions.specs.Prelude.{length}
 use Rattle.store.specs.Runs.{Stores}
 use Rattle.definitions.specs.Storing.{filling_of}
 use Rattle.definitions.proofs.filling.fill.Given as goal

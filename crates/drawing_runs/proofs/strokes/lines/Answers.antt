@@ -1,4 +1,5 @@
-use Rattle.drawing_runs.specs.Prelude.{refl, sym, ◌∙◌, false, ◌+◌, ◌*◌, ◌-◌, ◌≤◌, arith, length}
+use Rattle.std.specs.Prelude.{◌+◌, ◌*◌, ◌≤◌}
+use Rattle.drawing_runs.specs.Prelude.{refl, sym, ◌∙◌, false, arith, length}
 use Rattle.rules.specs.Numbers.{room_for_step}
 use Rattle.rules.specs.Operands.{point, all_data}
 use Rattle.operands.proofs.WholeLaws.{three_told}

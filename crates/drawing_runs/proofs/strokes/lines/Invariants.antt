@@ -1,7 +1,7 @@
-use Rattle.drawing_runs.specs.Prelude.{List, ◌≡◌, ℕ, ◌+◌, ◌*◌, ◌-◌, ◌≤◌, length}
+use Rattle.std.specs.Prelude.{◌≡◌, ◌+◌, ◌*◌, ◌-◌, ◌≤◌}
+use Rattle.drawing_runs.specs.Prelude.{List, ℕ, length}
 use Rattle.records.specs.declared.Head.{Head}
 use Rattle.rules.specs.declared.Point.{Point}
-use Rattle.rules.specs.Operands.{point}
 use Rattle.drawing_runs.specs.Strokes.{Lines}
 use Rattle.drawing_runs.proofs.strokes.lines.Given as goal
 

@@ -1,4 +1,5 @@
-use Rattle.drawing_runs.specs.Prelude.{sym, ◌∙◌, false, ◌+◌, ◌-◌, ◌≤◌, arith, length}
+use Rattle.std.specs.Prelude.{◌+◌, ◌≤◌}
+use Rattle.drawing_runs.specs.Prelude.{sym, ◌∙◌, false, arith, length}
 use Rattle.rules.specs.Operands.{point, all_data}
 use Rattle.operands.proofs.WholeLaws.{three_told}
 use Rattle.drawing_runs.proofs.StrokeLaws.{moves_none, moves_on}

@@ -1,5 +1,4 @@
-use Rattle.drawing_runs.specs.Prelude.{◌-◌, ◌≤◌}
-use Rattle.rules.specs.Operands.{point}
+use Rattle.std.specs.Prelude.{◌-◌, ◌≤◌}
 use Rattle.drawing_runs.specs.Strokes.{Moves}
 use Rattle.drawing_runs.proofs.strokes.moves.Given as goal
 

@@ -1,8 +1,8 @@
-use Rattle.fresh_sessions.proofs.Prelude.{ℕ, ◌≡◌, ap, List, ne_eqb, eq-eqb}
+use Rattle.std.specs.Prelude.{◌≡◌}
+use Rattle.fresh_sessions.proofs.Prelude.{ℕ, ap, List, ne_eqb, eq-eqb}
 use Rattle.rules.specs.Calls.{number_of, Terms, Opening, open_page, open_as, fresh_state}
 use Rattle.rules.specs.Promises.{Opens, opening_of}
 use Rattle.rules.specs.declared.Opened.{Opened}
-use Rattle.std.proofs.Common.{rules}
 use Rattle.fresh_sessions.proofs.open.open.Goals as goal
 
 -- The number of the answer follows from all that is handed over; `number-tells` (rules, Numbers) says that it determines the answer

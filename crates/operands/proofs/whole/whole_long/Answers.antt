@@ -1,4 +1,4 @@
-use Rattle.operands.specs.Prelude.{refl, ◌-◌}
+use Rattle.operands.specs.Prelude.{refl}
 use Rattle.rules.specs.Operands.{bits_of, from_top, point, all_data}
 use Rattle.operands.proofs.WholeLaws.{long_more, long_point, long_cut, long_whole}
 use Rattle.std.proofs.Common.{rules}

@@ -1,4 +1,5 @@
-use Rattle.operands.specs.Prelude.{◌≡◌, true, ◌-◌, ◌≤◌, take, drop}
+use Rattle.std.specs.Prelude.{◌≡◌, ◌-◌, ◌≤◌}
+use Rattle.operands.specs.Prelude.{true, take, drop}
 use Rattle.rules.specs.Operands.{point, all_data}
 use Rattle.operands.proofs.whole.whole_long.Given as goal
 

@@ -1,4 +1,4 @@
-use Rattle.ranges.specs.Prelude.{refl, ◌∙◌, sym, ◌-◌, arith}
+use Rattle.ranges.specs.Prelude.{refl, ◌∙◌, sym, arith}
 use Rattle.ranges.proofs.RangeLaws.{fit_on, fit_not, fit_end}
 use Rattle.ranges.proofs.stack.places_fit.Goals as goal
 

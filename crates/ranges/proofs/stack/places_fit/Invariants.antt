@@ -1,4 +1,5 @@
-use Rattle.ranges.specs.Prelude.{◌≡◌, ◌≤◌, ◌-◌, length, drop}
+use Rattle.std.specs.Prelude.{◌≡◌, ◌≤◌, ◌-◌}
+use Rattle.ranges.specs.Prelude.{length, drop}
 use Rattle.rules.specs.Ranges.{places_fit}
 use Rattle.ranges.proofs.stack.places_fit.Given as goal
 

@@ -1,4 +1,4 @@
-use Rattle.store.specs.Prelude.{◌-◌, arith, refl, length-set}
+use Rattle.store.specs.Prelude.{arith, refl, length-set}
 use Rattle.store.specs.Runs.{none}
 use Rattle.store.proofs.RunLaws.{laid_on}
 use Rattle.store.proofs.cells.lay_bytes.Goals as goal

@@ -1,4 +1,5 @@
-use Rattle.store.specs.Prelude.{◌≤◌, ◌-◌, ◌≡◌, length}
+use Rattle.std.specs.Prelude.{◌≤◌, ◌-◌, ◌≡◌}
+use Rattle.store.specs.Prelude.{length}
 use Rattle.store.specs.Runs.{Laid}
 use Rattle.store.proofs.cells.lay_bytes.Given as goal
 

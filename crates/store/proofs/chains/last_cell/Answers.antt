@@ -1,4 +1,4 @@
-use Rattle.store.specs.Prelude.{refl, ◌∙◌, sym, ◌-◌, arith}
+use Rattle.store.specs.Prelude.{refl, ◌∙◌, sym, arith}
 use Rattle.store.proofs.ChainLaws.{last_none, last_here, last_on}
 use Rattle.store.proofs.chains.last_cell.Goals as goal
 

@@ -1,4 +1,4 @@
-use Rattle.store.specs.Prelude.{◌≡◌, ◌<◌, ◌≤◌, ◌-◌}
+use Rattle.std.specs.Prelude.{◌≡◌, ◌<◌, ◌≤◌}
 use Rattle.rules.specs.Store.{last_cell}
 use Rattle.store.proofs.chains.last_cell.Given as goal
 

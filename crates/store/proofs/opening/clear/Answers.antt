@@ -1,4 +1,4 @@
-use Rattle.store.specs.Prelude.{refl, ◌∙◌, ap, List, ℕ, ◌-◌, arith, set, length-set}
+use Rattle.store.specs.Prelude.{refl, ◌∙◌, ap, List, ℕ, arith, set, length-set}
 use Rattle.rules.proofs.Lists.{fill_more, fill_all}
 use Rattle.store.proofs.opening.clear.Goals as goal
 

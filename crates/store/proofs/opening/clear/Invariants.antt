@@ -1,4 +1,5 @@
-use Rattle.store.specs.Prelude.{◌≡◌, ◌++◌, ◌≤◌, ◌-◌, length, drop, replicate}
+use Rattle.std.specs.Prelude.{◌≡◌, ◌++◌, ◌≤◌, ◌-◌}
+use Rattle.store.specs.Prelude.{length, drop, replicate}
 use Rattle.store.proofs.opening.clear.Given as goal
 
 -- The bytes before this one are cleared

@@ -1,4 +1,5 @@
-use Rattle.store.specs.Prelude.{◌≡◌, ◌∙◌, ap, List, ℕ, ◌-◌, ◌+◌, arith, length, length-replicate}
+use Rattle.std.specs.Prelude.{◌≡◌, ◌+◌}
+use Rattle.store.specs.Prelude.{◌∙◌, ap, List, ℕ, arith, length, length-replicate}
 use Rattle.rules.specs.Store.{set_next}
 use Rattle.store.proofs.CellLaws.{length-set_next, linked_to, linked_none, linked_more, linked_all}
 use Rattle.store.proofs.opening.link.Goals as goal

@@ -1,4 +1,5 @@
-use Rattle.store.specs.Prelude.{◌≡◌, List, ℕ, ◌≤◌, ◌-◌, length}
+use Rattle.std.specs.Prelude.{◌≡◌, ◌≤◌, ◌-◌}
+use Rattle.store.specs.Prelude.{List, ℕ, length}
 use Rattle.store.proofs.CellLaws.{linked_to}
 use Rattle.store.proofs.opening.link.Given as goal
 

@@ -1,4 +1,4 @@
-use Rattle.tables.proofs.Prelude.{◌-◌}
+use Rattle.std.specs.Prelude.{◌-◌}
 use Rattle.rules.specs.declared.Waiting.TheVariants.{Longer}
 use Rattle.rules.specs.Coding.{designators, designator_of}
 use Rattle.rules.proofs.Tables.{at, before, past}

@@ -1,4 +1,5 @@
-use Rattle.tables.proofs.Prelude.{◌≡◌, refl, false, ℕ, eqb, ne_eqb}
+use Rattle.std.specs.Prelude.{◌≡◌}
+use Rattle.tables.proofs.Prelude.{refl, false, ℕ, eqb, ne_eqb}
 use Rattle.rules.specs.declared.Repertoire.{Repertoire}
 use Rattle.rules.specs.declared.Repertoire.TheVariants.{Primary, Supplementary, Mosaic, Drcs}
 use Rattle.rules.specs.declared.Action.TheVariants.{Character}
