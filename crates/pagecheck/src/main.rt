@@ -4,7 +4,7 @@
 // group, one for all, and one for each reading that differs: page, cut and buffer.
 #![tactic(auto)]
 
-ghost use Rattle.std.specs.Prelude.{◌<◌, ◌≤◌, length};
+ghost use Rattle.std.specs.Prelude.{◌≡◌, ◌≢◌, ◌<◌, ◌≤◌, length, All, slice_index, slice_range};
 ghost use Rattle.io.specs.Counts.{IsPrefixLen};
 
 use demands::draw_cuts;
@@ -21,6 +21,8 @@ const PATH_SIZE: usize = 4096;
 
 // No index is longer.
 const INDEX_SIZE: usize = 4096;
+
+const LINE_END: u8 = b'\n';
 
 // No stored page is longer.
 const PAGE_SIZE: usize = 16384;
@@ -284,13 +286,15 @@ fn compare_page(rt: &(impl Files + Print + Eprint), group: &[u8], name: &[u8]) -
     compare_places(rt, name, &page[..n], &listing[..m])
 }
 
-// Where the line at a place ends.
+// Where the line at a place ends: at its line end, or with the text.
 fn line_end(text: &[u8], at: usize) -> usize
     requires { at ≤ length text.now }
     ensures lower_bound { at ≤ result }
     ensures upper_bound { result ≤ length text.now }
+    ensures found { result < length text.now → slice_index text.now result ≡ LINE_END }
+    ensures one_line { All (λ byte. byte ≢ LINE_END) (slice_range text.now at result) }
 {
-    match text[at..].iter().position(|byte| *byte == b'\n') {
+    match text[at..].iter().position(|byte| *byte == LINE_END) {
         Some(n) => at + n,
         None => text.len(),
     }
