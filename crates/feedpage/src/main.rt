@@ -9,12 +9,15 @@ ghost use Rattle.rules.specs.Reading.{steps_left};
 ghost use Rattle.rules.specs.Step.{state_lent};
 ghost use Rattle.reader.specs.PieceRead.{PieceRead};
 
-use libc::{SEEK_SET, STDIN_FILENO, STDOUT_FILENO};
 use reader::end::end;
 use reader::feed::feed_from;
 use reader::number::number_of;
 use reader::open::open;
 use rules::{Answer, STORE_SIZE, Session};
+use std::fs::File;
+use std::io;
+use std::io::{Read, Seek, SeekFrom};
+use std::rt::{Env, Files};
 
 const MOST_ROUNDS: u32 = 1000000;
 
@@ -66,13 +69,12 @@ fn number_in(text: &[u8]) -> u32 {
     number
 }
 
-fn rounds_asked() -> u32 {
-    if os::arg_count() < 2 {
-        return 1;
-    }
+fn rounds_asked(rt: &impl Env) -> u32 {
     let mut text = [0u8; 16];
-    let n = os::arg(1, &mut text);
-    number_in(&text[..n])
+    match rt.arg(1, &mut text) {
+        Ok(n) => number_in(&text[..n]),
+        Err(_) => 1,
+    }
 }
 
 // Feeds a piece until it is read or a step is refused.
@@ -99,8 +101,17 @@ fn feed_piece(
     }
 }
 
+fn input_failed(rt: &impl Eprint, session: Session, error: io::Error) -> Handover
+    ensures { result.next ≡ Next.Failed }
+{
+    let _ = eprintln!(rt; "standard input: {error}");
+    hand_on(session, Next::Failed)
+}
+
 // Feeds a piece of standard input. One that is read has bytes, so less of the budget is left, and the loop over pieces ends.
 fn read_once(
+    rt: &impl Eprint,
+    input: &mut impl Read,
     session: Session,
     store: &mut [u8; STORE_SIZE],
     piece: &mut [u8],
@@ -109,19 +120,16 @@ fn read_once(
     ensures { result.next ≡ Next.Read →
         steps_left (state_lent result.session store.new) < steps_left (state_lent session store.old) }
 {
-    let got = libc::read(STDIN_FILENO, piece);
-    if got < 0 {
-        os::fail(b"standard input");
-        return hand_on(session, Next::Failed);
+    match input.read(piece) {
+        Ok(0) => hand_on(session, Next::End),
+        Ok(n) => feed_piece(session, store, &piece[..n], out),
+        Err(error) => input_failed(rt, session, error),
     }
-    let n = io::count(got, piece);
-    if n == 0 {
-        return hand_on(session, Next::End);
-    }
-    feed_piece(session, store, &piece[..n], out)
 }
 
 fn read_page(
+    rt: &impl Eprint,
+    input: &mut impl Read,
     session: Session,
     store: &mut [u8; STORE_SIZE],
     piece: &mut [u8],
@@ -129,7 +137,7 @@ fn read_page(
 ) -> Handover {
     let mut session = session;
     loop {
-        let handover = read_once(session, store, piece, out);
+        let handover = read_once(rt, input, session, store, piece, out);
         session = handover.session;
         let next = handover.next;
         let Next::Read = next else {
@@ -138,25 +146,38 @@ fn read_page(
     }
 }
 
+// Standard input once more, from the start of the file that it is.
+fn from_start<R: Files>(rt: &R) -> io::Result<R::File> {
+    let mut input = File::open(rt, "/dev/stdin")?;
+    input.seek(SeekFrom::Start(0))?;
+    Ok(input)
+}
+
 // Reads the page once more from its start.
-fn read_again(store: &mut [u8; STORE_SIZE], piece: &mut [u8], out: &mut [u8; 163840]) -> Handover {
+fn read_again(
+    rt: &(impl Files + Eprint),
+    store: &mut [u8; STORE_SIZE],
+    piece: &mut [u8],
+    out: &mut [u8; 163840],
+) -> Handover {
     let opened = open(store, u32::MAX);
     let session = opened.session;
-    if libc::lseek(STDIN_FILENO, 0, SEEK_SET) != 0 {
-        os::fail(b"standard input");
-        return hand_on(session, Next::Failed);
+    match from_start(rt) {
+        Ok(mut input) => read_page(rt, &mut input, session, store, piece, out),
+        Err(error) => input_failed(rt, session, error),
     }
-    read_page(session, store, piece, out)
 }
 
 fn read_rounds(
+    rt: &(impl Files + Eprint),
+    input: &mut impl Read,
     rounds: u32,
     store: &mut [u8; STORE_SIZE],
     piece: &mut [u8],
     out: &mut [u8; 163840],
 ) -> Handover {
     let opened = open(store, u32::MAX);
-    let mut handover = read_page(opened.session, store, piece, out);
+    let mut handover = read_page(rt, input, opened.session, store, piece, out);
     let mut left = rounds;
     while left > 1 {
         let next = handover.next;
@@ -164,7 +185,7 @@ fn read_rounds(
             return handover;
         };
         end(handover.session, store, out);
-        handover = read_again(store, piece, out);
+        handover = read_again(rt, store, piece, out);
         left -= 1;
     }
     handover
@@ -177,28 +198,38 @@ fn byte_at(out: &[u8; 163840], i: usize) -> u8 {
     0
 }
 
-fn end_page(session: Session, store: &[u8; STORE_SIZE], out: &mut [u8; 163840]) {
+fn print_end(rt: &impl Print, closing: &[u8], byte: u8) -> io::Result<()> {
+    rt.write_all(closing)?;
+    rt.print(byte)
+}
+
+fn end_page(
+    rt: &(impl Print + Eprint),
+    session: Session,
+    store: &[u8; STORE_SIZE],
+    out: &mut [u8; 163840],
+) {
     let ended = end(session, store, out);
     let answer = ended.answer;
     let session = ended.session;
     let mut text = [0u8; 32];
     let n = listing::put_closing(&mut text, number_of(answer), session.steps);
-    if !io::write_all(STDOUT_FILENO, &text[..n]) {
-        os::fail(b"standard output");
-        return;
-    }
     let byte = byte_at(out, session.steps as usize);
-    io::print_decimal(STDOUT_FILENO, byte as u64);
+    if let Err(error) = print_end(rt, &text[..n], byte) {
+        let _ = eprintln!(rt; "standard output: {error}");
+    }
 }
 
-fn main() {
+fn main(rt: HostRuntime) {
+    let mut input = rt.stdin();
     let mut store = [0u8; STORE_SIZE];
     let mut piece = [0u8; 65536];
     let mut out = [0u8; 163840];
-    let handover = read_rounds(rounds_asked(), &mut store, &mut piece, &mut out);
+    let rounds = rounds_asked(&rt);
+    let handover = read_rounds(&rt, &mut input, rounds, &mut store, &mut piece, &mut out);
     let session = handover.session;
     let next = handover.next;
     if let Next::End = next {
-        end_page(session, &store, &mut out);
+        end_page(&rt, session, &store, &mut out);
     }
 }

@@ -15,6 +15,7 @@ use sessions::{
     with_addresses, with_command, with_depth, with_last_colour, with_lengths, with_operand,
     with_places, with_steps, with_text, with_waiting,
 };
+use std::io;
 
 const DOMAIN: u8 = 33;
 
@@ -39,159 +40,177 @@ fn ended() -> Session {
     ended.session
 }
 
-fn feed_stopped(name: &[u8], session: Session) {
+fn feed_stopped(rt: &impl Print, name: &[u8], session: Session) -> io::Result<()> {
     let mut store = [0u8; STORE_SIZE];
     open(&mut store, u32::MAX);
-    feed_case(name, session, &mut store, b"A");
+    feed_case(rt, name, session, &mut store, b"A")?;
+    Ok(())
 }
 
-fn lend(name: &[u8], store: &mut [u8]) {
-    feed_case(name, fresh(), store, b"A");
-    end_case(name, ended(), store);
+fn lend(rt: &impl Print, name: &[u8], store: &mut [u8]) -> io::Result<()> {
+    feed_case(rt, name, fresh(), store, b"A")?;
+    end_case(rt, name, ended(), store)?;
+    Ok(())
 }
 
-fn store_case(name: &[u8], store: &mut [u8]) {
+fn store_case(rt: &impl Print, name: &[u8], store: &mut [u8]) -> io::Result<()> {
     let opened = open(store, u32::MAX);
     let answer = opened.answer;
-    print_open(name, answer);
+    print_open(rt, name, answer)?;
     let stopped = opened.session;
-    feed_stopped(name, stopped);
-    lend(name, store);
+    feed_stopped(rt, name, stopped)?;
+    lend(rt, name, store)
 }
 
-fn stores() {
+fn stores(rt: &impl Print) -> io::Result<()> {
     let mut one = [0u8; 1];
-    store_case(b"store-0", &mut one[..0]);
+    store_case(rt, b"store-0", &mut one[..0])?;
     let mut shorter = [0u8; 8191];
-    store_case(b"store-8191", &mut shorter);
+    store_case(rt, b"store-8191", &mut shorter)?;
     let mut longer = [0u8; 8193];
-    store_case(b"store-8193", &mut longer);
+    store_case(rt, b"store-8193", &mut longer)
 }
 
-fn both(name: &[u8], session: Session) {
+fn both(rt: &impl Print, name: &[u8], session: Session) -> io::Result<()> {
     let mut store = [0u8; STORE_SIZE];
     open(&mut store, u32::MAX);
-    feed_case(name, session, &mut store, b"A");
-    end_case(name, session, &store);
+    feed_case(rt, name, session, &mut store, b"A")?;
+    end_case(rt, name, session, &store)?;
+    Ok(())
 }
 
-fn drawing_fields(session: Session) {
-    both(b"single-0", with_lengths(session, 0, 3));
-    both(b"single-5", with_lengths(session, 5, 3));
-    both(b"multi-0", with_lengths(session, 1, 0));
-    both(b"multi-9", with_lengths(session, 1, 9));
-    both(b"foreground-16", with_addresses(session, 16, 0));
-    both(b"background-16", with_addresses(session, 0, 16));
-    both(b"vertices-0", with_command(session, 0, 0));
-    both(b"vertices-412", with_command(session, 0, 412));
-    both(b"vertices-413", with_command(session, 0, 413));
-    both(b"opcode-1", with_command(session, 1, 1));
-    both(b"opcode-31", with_command(session, 31, 1));
-    both(b"opcode-64", with_command(session, 64, 1));
-    both(b"operand-3-of-3", with_operand(session, POINT_SET, 3));
-    both(b"operand-1-of-1", with_operand(session, SELECT_COLOUR, 1));
-    both(b"operand-2-of-domain", with_operand(session, DOMAIN, 2));
-    both(b"operand-1-of-text", with_operand(session, TEXT, 1));
-}
-
-fn row_case(name: &[u8], session: Session, row: u8) {
+fn drawing_fields(rt: &impl Print, session: Session) -> io::Result<()> {
+    both(rt, b"single-0", with_lengths(session, 0, 3))?;
+    both(rt, b"single-5", with_lengths(session, 5, 3))?;
+    both(rt, b"multi-0", with_lengths(session, 1, 0))?;
+    both(rt, b"multi-9", with_lengths(session, 1, 9))?;
+    both(rt, b"foreground-16", with_addresses(session, 16, 0))?;
+    both(rt, b"background-16", with_addresses(session, 0, 16))?;
+    both(rt, b"vertices-0", with_command(session, 0, 0))?;
+    both(rt, b"vertices-412", with_command(session, 0, 412))?;
+    both(rt, b"vertices-413", with_command(session, 0, 413))?;
+    both(rt, b"opcode-1", with_command(session, 1, 1))?;
+    both(rt, b"opcode-31", with_command(session, 31, 1))?;
+    both(rt, b"opcode-64", with_command(session, 64, 1))?;
+    both(rt, b"operand-3-of-3", with_operand(session, POINT_SET, 3))?;
     both(
+        rt,
+        b"operand-1-of-1",
+        with_operand(session, SELECT_COLOUR, 1),
+    )?;
+    both(rt, b"operand-2-of-domain", with_operand(session, DOMAIN, 2))?;
+    both(rt, b"operand-1-of-text", with_operand(session, TEXT, 1))
+}
+
+fn row_case(rt: &impl Print, name: &[u8], session: Session, row: u8) -> io::Result<()> {
+    both(
+        rt,
         name,
         with_waiting(session, Waiting::Column(Positioning::Aps, row)),
-    );
+    )
 }
 
-fn text_fields(session: Session) {
+fn text_fields(rt: &impl Print, session: Session) -> io::Result<()> {
     both(
+        rt,
         b"row-due",
         with_waiting(session, Waiting::Row(Positioning::Nsr)),
-    );
-    row_case(b"row-63", session, 63);
-    row_case(b"row-64", session, 64);
-    row_case(b"row-127", session, 127);
-    row_case(b"row-128", session, 128);
-    both(b"cursor-below", with_text(session, 0xFFFF_FFFF, 256));
-    both(b"cursor-beyond", with_text(session, 0x7FFF_FFFF, 257));
-    both(b"field-greatest", with_text(session, 0, 0x8000_0000));
-    both(b"field-none", with_text(session, 0, 0));
+    )?;
+    row_case(rt, b"row-63", session, 63)?;
+    row_case(rt, b"row-64", session, 64)?;
+    row_case(rt, b"row-127", session, 127)?;
+    row_case(rt, b"row-128", session, 128)?;
+    both(rt, b"cursor-below", with_text(session, 0xFFFF_FFFF, 256))?;
+    both(rt, b"cursor-beyond", with_text(session, 0x7FFF_FFFF, 257))?;
+    both(rt, b"field-greatest", with_text(session, 0, 0x8000_0000))?;
+    both(rt, b"field-none", with_text(session, 0, 0))
 }
 
-fn name_case(name: &[u8], session: Session, defined: u8) {
+fn name_case(rt: &impl Print, name: &[u8], session: Session, defined: u8) -> io::Result<()> {
     let definition = Definition {
         name: defined,
         last: 0,
     };
-    both(name, with_waiting(session, Waiting::Body(definition)));
-    both(name, with_waiting(session, Waiting::BodyEscape(definition)));
+    both(rt, name, with_waiting(session, Waiting::Body(definition)))?;
+    both(
+        rt,
+        name,
+        with_waiting(session, Waiting::BodyEscape(definition)),
+    )
 }
 
-fn other_fields(session: Session) {
-    both(b"depth-9", with_depth(session, 9));
-    both(b"place-31", with_places(session, 31, 0));
-    both(b"unused-place-31", with_places(session, 0, 31));
-    name_case(b"name-31", session, 31);
-    name_case(b"name-128", session, 128);
+fn other_fields(rt: &impl Print, session: Session) -> io::Result<()> {
+    both(rt, b"depth-9", with_depth(session, 9))?;
+    both(rt, b"place-31", with_places(session, 31, 0))?;
+    both(rt, b"unused-place-31", with_places(session, 0, 31))?;
+    name_case(rt, b"name-31", session, 31)?;
+    name_case(rt, b"name-128", session, 128)
 }
 
-fn steps_over_budget(session: Session) {
+fn steps_over_budget(rt: &impl Print, session: Session) -> io::Result<()> {
     let mut store = [0u8; STORE_SIZE];
     open(&mut store, u32::MAX);
     feed_case(
+        rt,
         b"steps-over-budget",
         with_steps(session, 6),
         &mut store,
         b"A",
-    );
+    )?;
+    Ok(())
 }
 
-fn buffer_case(name: &[u8], session: Session, room: isize) {
+fn buffer_case(rt: &impl Print, name: &[u8], session: Session, room: isize) -> io::Result<()> {
     let mut store = [0u8; STORE_SIZE];
     open(&mut store, u32::MAX);
-    feed_within(name, session, &mut store, b"A", room);
-    feed_within(name, session, &mut store, b"", room);
-    end_within(name, with_operand(session, POINT_SET, 0), &store, room);
-    end_within(name, session, &store, room);
+    feed_within(rt, name, session, &mut store, b"A", room)?;
+    feed_within(rt, name, session, &mut store, b"", room)?;
+    end_within(rt, name, with_operand(session, POINT_SET, 0), &store, room)?;
+    end_within(rt, name, session, &store, room)?;
+    Ok(())
 }
 
-fn buffers(session: Session) {
-    buffer_case(b"buffer-0", session, 0);
-    buffer_case(b"buffer-39", session, 39);
-    buffer_case(b"buffer-119", session, 119);
-    buffer_case(b"buffer-120", session, 120);
+fn buffers(rt: &impl Print, session: Session) -> io::Result<()> {
+    buffer_case(rt, b"buffer-0", session, 0)?;
+    buffer_case(rt, b"buffer-39", session, 39)?;
+    buffer_case(rt, b"buffer-119", session, 119)?;
+    buffer_case(rt, b"buffer-120", session, 120)
 }
 
-fn after(session: Session) {
+fn after(rt: &impl Print, session: Session) -> io::Result<()> {
     let mut store = [0u8; STORE_SIZE];
     open(&mut store, u32::MAX);
-    let ended = end_case(b"page", session, &store);
-    feed_case(b"after-end", ended, &mut store, b"A");
-    end_case(b"after-end", ended, &store);
-    let stopped = feed_case(b"stop", session, &mut store, b"\x00\xff");
-    feed_case(b"after-stop", stopped, &mut store, b"A");
-    end_case(b"after-stop", stopped, &store);
+    let ended = end_case(rt, b"page", session, &store)?;
+    feed_case(rt, b"after-end", ended, &mut store, b"A")?;
+    end_case(rt, b"after-end", ended, &store)?;
+    let stopped = feed_case(rt, b"stop", session, &mut store, b"\x00\xff")?;
+    feed_case(rt, b"after-stop", stopped, &mut store, b"A")?;
+    end_case(rt, b"after-stop", stopped, &store)?;
+    Ok(())
 }
 
-fn colours(session: Session) {
+fn colours(rt: &impl Print, session: Session) -> io::Result<()> {
     let session = with_last_colour(session, 1, 2, 3);
-    colour_case(b"15", session, 15);
-    colour_case(b"16", session, 16);
-    colour_case(b"255", session, 255);
+    colour_case(rt, b"15", session, 15)?;
+    colour_case(rt, b"16", session, 16)?;
+    colour_case(rt, b"255", session, 255)
 }
 
-fn main() {
+fn main(rt: HostRuntime) -> io::Result<()> {
+    let rt = &rt;
     let mut store = [0u8; STORE_SIZE];
     let opened = open(&mut store, 5);
     let session = opened.session;
-    stores();
-    drawing_fields(session);
-    text_fields(session);
-    other_fields(session);
-    steps_over_budget(session);
-    cells::reading();
-    cells::cancelling();
-    cells::freeing();
-    cells::filling();
-    buffers(session);
-    after(session);
-    colours(session);
+    stores(rt)?;
+    drawing_fields(rt, session)?;
+    text_fields(rt, session)?;
+    other_fields(rt, session)?;
+    steps_over_budget(rt, session)?;
+    cells::reading(rt)?;
+    cells::cancelling(rt)?;
+    cells::freeing(rt)?;
+    cells::filling(rt)?;
+    buffers(rt, session)?;
+    after(rt, session)?;
+    colours(rt, session)
 }

@@ -18,8 +18,9 @@ pub fn put(text: &mut [u8], at: usize, bytes: &[u8]) -> usize
     requires { at + length bytes.now ≤ length text.old }
     ensures { Put at bytes.now text.old text.new result }
 {
-    let n = bytes::copy(bytes, &mut text[at..]);
-    at + n
+    let end = at + bytes.len();
+    text[at..end].copy_from_slice(bytes);
+    end
 }
 
 fn wide(byte: u8) -> u32

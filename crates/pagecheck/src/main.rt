@@ -4,14 +4,25 @@
 // group, one for all, and one for each reading that differs: page, cut and buffer.
 #![tactic(auto)]
 
-ghost use Rattle.std.specs.Prelude.{◌<◌, ◌≤◌, length};
+ghost use Rattle.std.specs.Prelude.{◌≡◌, ◌≢◌, ◌<◌, ◌≤◌, length, All, slice_index, slice_range};
 ghost use Rattle.io.specs.Counts.{IsPrefixLen};
 
 use demands::draw_cuts;
-use libc::STDOUT_FILENO;
 use listing::least;
 use reader::number::number_of;
 use rules::{RECORD_SIZE, STORE_SIZE};
+use std::fs::File;
+use std::io;
+use std::io::Read;
+use std::rt::Files;
+
+// No path of a stored file is longer.
+const PATH_SIZE: usize = 4096;
+
+// No index is longer.
+const INDEX_SIZE: usize = 4096;
+
+const LINE_END: u8 = b'\n';
 
 // No stored page is longer.
 const PAGE_SIZE: usize = 16384;
@@ -122,59 +133,77 @@ fn agrees(page: &[u8], listing: &[u8], cut: usize, buffer: usize) -> bool
     gives(page, listing, &lengths[..calls], &rooms[..calls])
 }
 
-fn print_differs(name: &[u8], how: &[u8], bytes: usize) {
-    io::write_all(STDOUT_FILENO, name);
-    io::write_all(STDOUT_FILENO, how);
-    io::print_decimal(STDOUT_FILENO, bytes as u64);
+fn print_differs(rt: &impl Print, name: &[u8], how: &[u8], bytes: usize) -> io::Result<()> {
+    rt.write_all(name)?;
+    rt.write_all(how)?;
+    rt.print(bytes)
 }
 
-fn compare(name: &[u8], page: &[u8], listing: &[u8], cut: usize, buffer: usize)
+fn compare(
+    rt: &impl Print,
+    name: &[u8],
+    page: &[u8],
+    listing: &[u8],
+    cut: usize,
+    buffer: usize,
+) -> io::Result<()>
     requires { 0 < cut }
 {
     if agrees(page, listing, cut, buffer) {
-        return;
+        return Ok(());
     }
-    print_differs(name, b" differs: cut ", cut);
-    io::write_all(STDOUT_FILENO, b", buffer ");
-    io::print_decimal(STDOUT_FILENO, buffer as u64);
-    io::write_all(STDOUT_FILENO, b"\n");
+    print_differs(rt, name, b" differs: cut ", cut)?;
+    println!(rt; ", buffer {buffer}")
 }
 
 // The page in two pieces, the first of so many bytes, with room for all its records.
-fn compare_place(name: &[u8], page: &[u8], listing: &[u8], place: usize) {
+fn compare_place(
+    rt: &impl Print,
+    name: &[u8],
+    page: &[u8],
+    listing: &[u8],
+    place: usize,
+) -> io::Result<()> {
     let lengths = [place, PAGE_SIZE];
     let rooms = [OUTPUT_SIZE; 2];
     if gives(page, listing, &lengths, &rooms) {
-        return;
+        return Ok(());
     }
-    print_differs(name, b" differs: cut at ", place);
-    io::write_all(STDOUT_FILENO, b"\n");
+    print_differs(rt, name, b" differs: cut at ", place)?;
+    rt.println("")
 }
 
-fn compare_places(name: &[u8], page: &[u8], listing: &[u8]) {
+fn compare_places(rt: &impl Print, name: &[u8], page: &[u8], listing: &[u8]) -> io::Result<()> {
     let mut place: usize = 0;
     while place < page.len() {
-        compare_place(name, page, listing, place);
+        compare_place(rt, name, page, listing, place)?;
         place += 1;
     }
+    Ok(())
 }
 
-fn compare_buffers(name: &[u8], page: &[u8], listing: &[u8], cut: usize)
+fn compare_buffers(
+    rt: &impl Print,
+    name: &[u8],
+    page: &[u8],
+    listing: &[u8],
+    cut: usize,
+) -> io::Result<()>
     requires { 0 < cut }
 {
-    compare(name, page, listing, cut, 120);
-    compare(name, page, listing, cut, 121);
-    compare(name, page, listing, cut, 160);
-    compare(name, page, listing, cut, 4000);
+    compare(rt, name, page, listing, cut, 120)?;
+    compare(rt, name, page, listing, cut, 121)?;
+    compare(rt, name, page, listing, cut, 160)?;
+    compare(rt, name, page, listing, cut, 4000)
 }
 
-fn compare_cuts(name: &[u8], page: &[u8], listing: &[u8]) {
-    compare_buffers(name, page, listing, PAGE_SIZE);
-    compare_buffers(name, page, listing, 1);
-    compare_buffers(name, page, listing, 2);
-    compare_buffers(name, page, listing, 3);
-    compare_buffers(name, page, listing, 7);
-    compare_buffers(name, page, listing, 64);
+fn compare_cuts(rt: &impl Print, name: &[u8], page: &[u8], listing: &[u8]) -> io::Result<()> {
+    compare_buffers(rt, name, page, listing, PAGE_SIZE)?;
+    compare_buffers(rt, name, page, listing, 1)?;
+    compare_buffers(rt, name, page, listing, 2)?;
+    compare_buffers(rt, name, page, listing, 3)?;
+    compare_buffers(rt, name, page, listing, 7)?;
+    compare_buffers(rt, name, page, listing, 64)
 }
 
 // A path that has no room for a part goes without it, and names no file.
@@ -197,72 +226,124 @@ fn put_path(path: &mut [u8], group: &[u8], name: &[u8], suffix: &[u8]) -> usize
     put_part(path, at, suffix)
 }
 
-// The bytes of a file, as many as there is room for, and how many. A file that cannot be opened is said on standard error.
-fn load(group: &[u8], name: &[u8], suffix: &[u8], into: &mut [u8]) -> usize
+fn say_failed(rt: &impl Eprint, path: &[u8], error: io::Error) {
+    let _ = eprintln!(rt; "{}: {error}", path.escape_ascii());
+}
+
+// A path that is no text names no file.
+fn open<R: Files>(rt: &R, path: &[u8]) -> io::Result<R::File> {
+    match str::from_utf8(path) {
+        Ok(path) => File::open(rt, path),
+        Err(_) => Err(io::Error::from(io::ErrorKind::InvalidFilename)),
+    }
+}
+
+// Reads until there is no more room or no more to read. A read that fails is said on standard error and ends it.
+fn read_full(rt: &impl Eprint, path: &[u8], file: &mut impl Read, into: &mut [u8]) -> usize
     ensures { IsPrefixLen result into.new }
 {
-    let mut path = io::buffer();
-    let n = put_path(&mut path, group, name, suffix);
-    let fd = os::open_read(&path[..n]);
-    if fd < 0 {
-        os::fail(&path[..n]);
-        return 0;
+    let mut done: usize = 0;
+    while done < into.len() {
+        match file.read(&mut into[done..]) {
+            Ok(0) => return done,
+            Ok(n) => done += n,
+            Err(error) => {
+                say_failed(rt, path, error);
+                return done;
+            }
+        }
     }
-    let got = io::read_full(fd, into);
-    libc::close(fd);
-    got
+    done
 }
 
-fn compare_page(group: &[u8], name: &[u8]) {
+// The bytes of a file, as many as there is room for, and how many. A file that cannot be opened is said on standard error.
+fn load(
+    rt: &(impl Files + Eprint),
+    group: &[u8],
+    name: &[u8],
+    suffix: &[u8],
+    into: &mut [u8],
+) -> usize
+    ensures { IsPrefixLen result into.new }
+{
+    let mut path = [0u8; PATH_SIZE];
+    let n = put_path(&mut path, group, name, suffix);
+    match open(rt, &path[..n]) {
+        Ok(mut file) => read_full(rt, &path[..n], &mut file, into),
+        Err(error) => {
+            say_failed(rt, &path[..n], error);
+            0
+        }
+    }
+}
+
+fn compare_page(rt: &(impl Files + Print + Eprint), group: &[u8], name: &[u8]) -> io::Result<()> {
     let mut page = [0u8; PAGE_SIZE];
-    let n = load(group, name, b".page", &mut page);
+    let n = load(rt, group, name, b".page", &mut page);
     let mut listing = [0u8; LISTING_SIZE];
-    let m = load(group, name, b".listing", &mut listing);
-    compare_cuts(name, &page[..n], &listing[..m]);
-    compare_places(name, &page[..n], &listing[..m]);
+    let m = load(rt, group, name, b".listing", &mut listing);
+    compare_cuts(rt, name, &page[..n], &listing[..m])?;
+    compare_places(rt, name, &page[..n], &listing[..m])
 }
 
-fn compare_pages(group: &[u8], index: &[u8]) -> u64 {
+// Where the line at a place ends: at its line end, or with the text.
+fn line_end(text: &[u8], at: usize) -> usize
+    requires { at ≤ length text.now }
+    ensures lower_bound { at ≤ result }
+    ensures upper_bound { result ≤ length text.now }
+    ensures found { result < length text.now → slice_index text.now result ≡ LINE_END }
+    ensures one_line { All (λ byte. byte ≢ LINE_END) (slice_range text.now at result) }
+{
+    match text[at..].iter().position(|byte| *byte == LINE_END) {
+        Some(n) => at + n,
+        None => text.len(),
+    }
+}
+
+fn compare_pages(
+    rt: &(impl Files + Print + Eprint),
+    group: &[u8],
+    index: &[u8],
+) -> io::Result<u64> {
     let mut pages: u64 = 0;
     let mut at: usize = 0;
     while at < index.len() {
-        let end = bytes::scan::find(index, at, index.len(), b'\n');
-        compare_page(group, &index[at..end]);
+        let end = line_end(index, at);
+        compare_page(rt, group, &index[at..end])?;
         pages += 1;
         at = end + 1;
     }
-    pages
+    Ok(pages)
 }
 
-fn print_count(pages: u64) {
-    io::print_decimal(STDOUT_FILENO, pages);
-    io::write_all(STDOUT_FILENO, b" pages\n");
+fn print_count(rt: &impl Print, pages: u64) -> io::Result<()> {
+    println!(rt; "{pages} pages")
 }
 
-fn compare_group(group: &[u8]) -> u64 {
-    let mut index = io::buffer();
-    let n = load(group, b"index", b"", &mut index);
-    let pages = compare_pages(group, &index[..n]);
-    io::write_all(STDOUT_FILENO, group);
-    io::write_all(STDOUT_FILENO, b": ");
-    print_count(pages);
-    pages
+fn compare_group(rt: &(impl Files + Print + Eprint), group: &[u8]) -> io::Result<u64> {
+    let mut index = [0u8; INDEX_SIZE];
+    let n = load(rt, group, b"index", b"", &mut index);
+    let pages = compare_pages(rt, group, &index[..n])?;
+    rt.write_all(group)?;
+    rt.write_all(b": ")?;
+    print_count(rt, pages)?;
+    Ok(pages)
 }
 
-fn compare_groups(index: &[u8]) -> u64 {
+fn compare_groups(rt: &(impl Files + Print + Eprint), index: &[u8]) -> io::Result<u64> {
     let mut pages: u64 = 0;
     let mut at: usize = 0;
     while at < index.len() {
-        let end = bytes::scan::find(index, at, index.len(), b'\n');
-        pages = std::num::wrapping_add_u64(pages, compare_group(&index[at..end]));
+        let end = line_end(index, at);
+        pages = pages.wrapping_add(compare_group(rt, &index[at..end])?);
         at = end + 1;
     }
-    pages
+    Ok(pages)
 }
 
-fn main() {
-    let mut index = io::buffer();
-    let n = load(b".", b"index", b"", &mut index);
-    let pages = compare_groups(&index[..n]);
-    print_count(pages);
+fn main(rt: HostRuntime) -> io::Result<()> {
+    let mut index = [0u8; INDEX_SIZE];
+    let n = load(&rt, b".", b"index", b"", &mut index);
+    let pages = compare_groups(&rt, &index[..n])?;
+    print_count(&rt, pages)
 }

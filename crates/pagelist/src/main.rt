@@ -8,12 +8,12 @@ ghost use Rattle.rules.specs.Reading.{steps_left};
 ghost use Rattle.rules.specs.Step.{state_lent};
 ghost use Rattle.reader.specs.PieceRead.{PieceRead};
 
-use libc::{STDIN_FILENO, STDOUT_FILENO};
 use reader::end::end;
 use reader::feed::feed_from;
 use reader::number::number_of;
 use reader::open::open;
 use rules::{Answer, RECORD_SIZE, STORE_SIZE, Session};
+use std::io::Read;
 
 const PIECE_SIZE: usize = 65536;
 
@@ -49,23 +49,31 @@ fn hand_on(session: Session, next: Next) -> Handover
 }
 
 // Writes the first n bytes.
-fn write_text(text: &[u8], n: usize) -> bool
+fn write_text(rt: &(impl Print + Eprint), text: &[u8], n: usize) -> bool
     requires { IsPrefixLen n text.now }
 {
-    let is_written = io::write_all(STDOUT_FILENO, &text[..n]);
-    if !is_written {
-        os::fail(b"standard output");
+    match rt.write_all(&text[..n]) {
+        Ok(()) => true,
+        Err(error) => {
+            let _ = eprintln!(rt; "standard output: {error}");
+            false
+        }
     }
-    is_written
 }
 
-fn write_lines(out: &[u8; OUTPUT_SIZE], written: usize, text: &mut [u8; TEXT_SIZE]) -> bool {
+fn write_lines(
+    rt: &(impl Print + Eprint),
+    out: &[u8; OUTPUT_SIZE],
+    written: usize,
+    text: &mut [u8; TEXT_SIZE],
+) -> bool {
     let n = listing::put_lines(text, out, written);
-    write_text(text, n)
+    write_text(rt, text, n)
 }
 
 // Feeds a piece until it is read or a step is refused, and writes the lines of each call's records.
 fn feed_piece(
+    rt: &(impl Print + Eprint),
     session: Session,
     store: &mut [u8; STORE_SIZE],
     piece: &[u8],
@@ -81,7 +89,7 @@ fn feed_piece(
     loop {
         let fed = feed_from(session, store, piece, at, out);
         session = fed.session;
-        if !write_lines(out, fed.written, text) {
+        if !write_lines(rt, out, fed.written, text) {
             return hand_on(session, Next::Failed);
         }
         let answer = fed.answer;
@@ -95,6 +103,8 @@ fn feed_piece(
 
 // Feeds a piece of standard input. One that is read has bytes, so less of the budget is left, and the loop over pieces ends.
 fn read_once(
+    rt: &(impl Print + Eprint),
+    input: &mut impl Read,
     session: Session,
     store: &mut [u8; STORE_SIZE],
     piece: &mut [u8],
@@ -104,19 +114,19 @@ fn read_once(
     ensures { result.next ≡ Next.Read →
         steps_left (state_lent result.session store.new) < steps_left (state_lent session store.old) }
 {
-    let got = libc::read(STDIN_FILENO, piece);
-    if got < 0 {
-        os::fail(b"standard input");
-        return hand_on(session, Next::Failed);
+    match input.read(piece) {
+        Ok(0) => hand_on(session, Next::End),
+        Ok(n) => feed_piece(rt, session, store, &piece[..n], out, text),
+        Err(error) => {
+            let _ = eprintln!(rt; "standard input: {error}");
+            hand_on(session, Next::Failed)
+        }
     }
-    let n = io::count(got, piece);
-    if n == 0 {
-        return hand_on(session, Next::End);
-    }
-    feed_piece(session, store, &piece[..n], out, text)
 }
 
 fn read_page(
+    rt: &(impl Print + Eprint),
+    input: &mut impl Read,
     session: Session,
     store: &mut [u8; STORE_SIZE],
     piece: &mut [u8],
@@ -125,7 +135,7 @@ fn read_page(
 ) -> Handover {
     let mut session = session;
     loop {
-        let handover = read_once(session, store, piece, out, text);
+        let handover = read_once(rt, input, session, store, piece, out, text);
         session = handover.session;
         let next = handover.next;
         let Next::Read = next else {
@@ -135,32 +145,36 @@ fn read_page(
 }
 
 fn end_page(
+    rt: &(impl Print + Eprint),
     session: Session,
     store: &[u8; STORE_SIZE],
     out: &mut [u8; OUTPUT_SIZE],
     text: &mut [u8; TEXT_SIZE],
 ) {
     let ended = end(session, store, out);
-    if !write_lines(out, ended.written, text) {
+    if !write_lines(rt, out, ended.written, text) {
         return;
     }
     let answer = ended.answer;
     let session = ended.session;
     let n = listing::put_closing(text, number_of(answer), session.steps);
-    write_text(text, n);
+    write_text(rt, text, n);
 }
 
-fn main() {
+fn main(rt: HostRuntime) {
+    let mut input = rt.stdin();
     let mut store = [0u8; STORE_SIZE];
     let opened = open(&mut store, u32::MAX);
     let session = opened.session;
     let mut piece = [0u8; PIECE_SIZE];
     let mut out = [0u8; OUTPUT_SIZE];
     let mut text = [0u8; TEXT_SIZE];
-    let handover = read_page(session, &mut store, &mut piece, &mut out, &mut text);
+    let handover = read_page(
+        &rt, &mut input, session, &mut store, &mut piece, &mut out, &mut text,
+    );
     let session = handover.session;
     let next = handover.next;
     if let Next::End = next {
-        end_page(session, &store, &mut out, &mut text);
+        end_page(&rt, session, &store, &mut out, &mut text);
     }
 }
