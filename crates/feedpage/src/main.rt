@@ -1,7 +1,7 @@
 // Reads the page on standard input without listing it, for measurements, and prints `end`, the number of the end call and
 // the steps, then a byte of the output, so that no compiler can leave the records out. An argument says how often the page
-// is read, each time from its start and from an opened session; standard input has to be a file for more than once. A read
-// or a write that fails is said on standard error and ends the program.
+// is read, each time from its start and from an opened session; standard input that is no file is kept whole for more than
+// once. A read or a write that fails is said on standard error and ends the program.
 #![tactic(auto)]
 
 ghost use Rattle.std.specs.Prelude.{◌≡◌, ◌<◌};
@@ -153,15 +153,34 @@ fn from_start<R: Files>(rt: &R) -> io::Result<R::File> {
     Ok(input)
 }
 
-// Reads the page once more from its start.
+// The page, where it is read more than once from standard input that cannot go back to its start.
+fn keep_page<R: Files + AllocGlobal>(
+    rt: &R,
+    input: &mut impl Read,
+    rounds: u32,
+) -> io::Result<Option<Vec<u8>>> {
+    if rounds < 2 || from_start(rt).is_ok() {
+        return Ok(None);
+    }
+    let mut page = Vec::new(rt.alloc());
+    input.read_to_end(&mut page)?;
+    Ok(Some(page))
+}
+
+// Reads the page once more from its start: the page that is kept, else the file.
 fn read_again(
     rt: &(impl Files + Eprint),
+    kept: Option<&[u8]>,
     store: &mut [u8; STORE_SIZE],
     piece: &mut [u8],
     out: &mut [u8; 163840],
 ) -> Handover {
     let opened = open(store, u32::MAX);
     let session = opened.session;
+    if let Some(page) = kept {
+        let mut input = page;
+        return read_page(rt, &mut input, session, store, piece, out);
+    }
     match from_start(rt) {
         Ok(mut input) => read_page(rt, &mut input, session, store, piece, out),
         Err(error) => input_failed(rt, session, error),
@@ -171,6 +190,7 @@ fn read_again(
 fn read_rounds(
     rt: &(impl Files + Eprint),
     input: &mut impl Read,
+    kept: Option<&[u8]>,
     rounds: u32,
     store: &mut [u8; STORE_SIZE],
     piece: &mut [u8],
@@ -185,7 +205,7 @@ fn read_rounds(
             return handover;
         };
         end(handover.session, store, out);
-        handover = read_again(rt, store, piece, out);
+        handover = read_again(rt, kept, store, piece, out);
         left -= 1;
     }
     handover
@@ -226,7 +246,27 @@ fn main(rt: HostRuntime) {
     let mut piece = [0u8; 65536];
     let mut out = [0u8; 163840];
     let rounds = rounds_asked(&rt);
-    let handover = read_rounds(&rt, &mut input, rounds, &mut store, &mut piece, &mut out);
+    let handover = match keep_page(&rt, &mut input, rounds) {
+        Ok(Some(page)) => {
+            let mut start = &page[..];
+            read_rounds(
+                &rt,
+                &mut start,
+                Some(&page[..]),
+                rounds,
+                &mut store,
+                &mut piece,
+                &mut out,
+            )
+        }
+        Ok(None) => read_rounds(
+            &rt, &mut input, None, rounds, &mut store, &mut piece, &mut out,
+        ),
+        Err(error) => {
+            let opened = open(&mut store, u32::MAX);
+            input_failed(&rt, opened.session, error)
+        }
+    };
     let session = handover.session;
     let next = handover.next;
     if let Next::End = next {
