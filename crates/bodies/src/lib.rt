@@ -1,57 +1,43 @@
-// The stack of running macro bodies, outermost first, lent as two arrays beside the depth.
+// The stack of running macro bodies, outermost first: the cursors are lent beside the depth, which a reading counts by itself.
 #![tactic(auto)]
 
 pub mod calls;
 
-ghost use Rattle.std.specs.Prelude.{◌≡◌, ℕ, ◌-◌, ◌<◌, ◌≤◌, length, set};
+ghost use Rattle.std.specs.Prelude.{◌≡◌, ◌-◌, ◌≤◌};
 ghost use Rattle.rules.specs.Bodies.{body_at, depth_left, bytes_left, read_body};
 ghost use Rattle.store.specs.Lent.{Sized};
 ghost use Rattle.bodies.specs.Stack.{bodies_of, DepthAfter};
 
-use rules::{Action, Cursor, Read};
+use rules::{Action, Cursor};
 use store::cursors::{has_left, read_body};
 
-pub fn body_at(cells: &[u8; 8], places: &[u8; 8], index: u8) -> Cursor
-    requires { index < 8 }
-    ensures rule { (d : ℕ) → result ≡ body_at (bodies_of d cells.now places.now) index }
-    ensures held { index < length places.now }
-{
-    let places: &[u8] = places;
-    Cursor {
-        cell: cells[index as usize],
-        place: places[index as usize],
-    }
-}
-
 // The depth after the bodies that have no bytes left are removed from the innermost on.
-pub fn depth_left(store: &[u8], cells: &[u8; 8], places: &[u8; 8], depth: u8) -> u8
+pub fn depth_left(store: &[u8], cursors: &[Cursor; 8], depth: u8) -> u8
     requires { (Sized store.now) × (depth ≤ 8) }
-    ensures rule { result ≡ depth_left store.now (bodies_of depth cells.now places.now) depth }
+    ensures rule { result ≡ depth_left store.now (bodies_of depth cursors.now) depth }
     ensures most { result ≤ depth }
 {
-    let mut left = depth;
-    while 0 < left {
-        if has_left(store, body_at(cells, places, left - 1)) {
-            return left;
+    for index in (0..depth).rev() {
+        if has_left(store, cursors[index as usize]) {
+            return index + 1;
         }
-        left -= 1;
     }
     0
 }
 
-pub fn bytes_left(store: &[u8], cells: &[u8; 8], places: &[u8; 8], depth: u8) -> bool
+pub fn bytes_left(store: &[u8], cursors: &[Cursor; 8], depth: u8) -> bool
     requires { (Sized store.now) × (depth ≤ 8) }
-    ensures { result ≡ bytes_left store.now (bodies_of depth cells.now places.now) }
+    ensures { result ≡ bytes_left store.now (bodies_of depth cursors.now) }
 {
-    depth_left(store, cells, places, depth) != 0
+    depth_left(store, cursors, depth) != 0
 }
 
-// The next byte of the innermost body, which has bytes left.
-pub fn innermost(store: &[u8], cells: &[u8; 8], places: &[u8; 8], depth: u8) -> Read
+// The next byte of the innermost body, which has bytes left, and where the body is read next; none where a cell has a bad count.
+pub fn innermost(store: &[u8], cursors: &[Cursor; 8], depth: u8) -> Option<(u8, Cursor)>
     requires { (Sized store.now) × (1 ≤ depth) × (depth ≤ 8) }
-    ensures { result ≡ read_body store.now (body_at (bodies_of depth cells.now places.now) (depth - 1)) }
+    ensures { result ≡ read_body store.now (body_at (bodies_of depth cursors.now) (depth - 1)) }
 {
-    read_body(store, body_at(cells, places, depth - 1))
+    read_body(store, cursors[(depth - 1) as usize])
 }
 
 // The depth after an action, which keeps the bodies or leaves them all.
@@ -62,14 +48,4 @@ pub fn depth_after(action: Action, depth: u8) -> u8
         Action::Cancel(_) => 0,
         _ => depth,
     }
-}
-
-// The body at `index` is read on at the cursor: the innermost after a byte of it, or the next one where a call begins.
-pub fn set_body(cells: &mut [u8; 8], places: &mut [u8; 8], index: u8, cursor: Cursor)
-    requires { index < 8 }
-    ensures { (cells.new ≡ set cells.old index cursor.cell)
-        × (places.new ≡ set places.old index cursor.place) }
-{
-    cells[index as usize] = cursor.cell;
-    places[index as usize] = cursor.place;
 }

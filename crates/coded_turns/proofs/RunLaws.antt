@@ -1,6 +1,6 @@
 -- Runs of bytes as walks
 use Rattle.std.specs.Prelude.{◌+◌, ◌-◌, ◌≤◌, ◌<◌, ◌≡◌, ◌∷◌}
-use Rattle.coded_turns.specs.Prelude.{ℕ, zero, suc, add-zero, add-suc, arith, refl, sym, ap, ◌∙◌, subst, Bool, true, false, List, [], length, drop, get_or, set, drop-cons, get_or-set_same, set-get_or, ltb, lt-ltb, le-ltb}
+use Rattle.coded_turns.specs.Prelude.{ℕ, zero, suc, add-zero, add-suc, arith, refl, sym, ap, ◌∙◌, subst, Bool, true, false, List, [], length, drop, get_or, set, drop-cons, get_or-set_same, ltb, lt-ltb, le-ltb}
 use Rattle.rules.specs.declared.Action.{Action}
 use Rattle.rules.specs.declared.Action.TheVariants.{Idle as Idle·action, Cancel}
 use Rattle.rules.specs.declared.Bodies.{Bodies}
@@ -18,7 +18,7 @@ use Rattle.rules.specs.declared.Waiting.{Waiting}
 use Rattle.rules.specs.declared.Waiting.TheVariants.{Nothing}
 use Rattle.rules.specs.Numbers.{can, room_for_step}
 use Rattle.rules.specs.Choice.{pick}
-use Rattle.rules.specs.Bodies.{body_at, has_left, depth_left, unspent, leave_all}
+use Rattle.rules.specs.Bodies.{nowhere, body_at, has_left, depth_left, unspent, leave_all}
 use Rattle.rules.specs.Coding.{React, set_of, in_use, wait, with_sets, controls, control, graphic, class_of, react_to, react, after_escape}
 use Rattle.rules.specs.Drawing.{Draw, act}
 use Rattle.rules.specs.Record.{bytes_of_all}
@@ -142,52 +142,51 @@ piece_found : (w v : State) (piece : List ℕ) (at : ℕ) → remove_spent w ≡
 unfolding seek seek_at
 piece_found w v piece at e d h = rw (e, d, drop-cons piece at 0 h)
 
-none_spent : (budget steps : ℕ) (cells places : List ℕ) (c : Coding) (d : Drawing) (st : List ℕ)
-    → remove_spent (state_of budget steps Running (bodies_of 0 cells places) c d st) ≡ state_of budget steps Running (bodies_of 0 cells places) c d st
+none_spent : (budget steps : ℕ) (cursors : List Cursor) (c : Coding) (d : Drawing) (st : List ℕ)
+    → remove_spent (state_of budget steps Running (bodies_of 0 cursors) c d st) ≡ state_of budget steps Running (bodies_of 0 cursors) c d st
 unfolding remove_spent unspent depth_left
-none_spent budget steps cells places c d st = refl
+none_spent budget steps cursors c d st = refl
 
-pub piece_feeds : (piece : List ℕ) (at limit : ℕ) (cells places st : List ℕ) → at + limit ≤ length piece
-    → Feeds piece piece at limit st FromPiece (λ k. bodies_of 0 cells places) (λ k. at + k)
-piece_feeds piece at limit cells places st h =
+pub piece_feeds : (piece : List ℕ) (at limit : ℕ) (cursors : List Cursor) (st : List ℕ) → at + limit ≤ length piece
+    → Feeds piece piece at limit st FromPiece (λ k. bodies_of 0 cursors) (λ k. at + k)
+piece_feeds piece at limit cursors st h =
     record {
       rest = λ k. drop (suc (at + k)) piece;
-      sought = λ k l budget steps c d. piece_found (state_of budget steps Running (bodies_of 0 cells places) c d st) (state_of budget steps Running (bodies_of 0 cells places) c d st) piece (at + k) (none_spent budget steps cells places c d st) refl (omega arith);
+      sought = λ k l budget steps c d. piece_found (state_of budget steps Running (bodies_of 0 cursors) c d st) (state_of budget steps Running (bodies_of 0 cursors) c d st) piece (at + k) (none_spent budget steps cursors c d st) refl (omega arith);
       on = λ k. sym (add-suc at k);
     }
 
 -- A body's cell
-set_set : (l : List ℕ) (i a b : ℕ) → set (set l i a) i b ≡ set l i b
+set_set : (l : List Cursor) (i : ℕ) (a b : Cursor) → set (set l i a) i b ≡ set l i b
 set_set [] i a b = refl
 set_set (x ∷ l) zero a b = refl
-set_set (x ∷ l) (suc i) a b = ap (λ (m : List ℕ). x ∷ m) (set_set l i a b)
+set_set (x ∷ l) (suc i) a b = ap (λ (m : List Cursor). x ∷ m) (set_set l i a b)
 
-first_zero : (l : List ℕ) → get_or (set l 0 0) 0 0 ≡ 0
-first_zero [] = refl
-first_zero (x ∷ l) = refl
+first_nowhere : (l : List Cursor) → get_or (set l 0 nowhere) 0 nowhere ≡ nowhere
+first_nowhere [] = refl
+first_nowhere (x ∷ l) = refl
 
-module _ (piece : List ℕ) (at from limit i : ℕ) (cells places st : List ℕ) (x : Cursor) (e : x.cell ≡ get_or cells i 0) (wide : i < length places)
+module _ (piece : List ℕ) (at from limit i : ℕ) (cursors : List Cursor) (st : List ℕ) (x : Cursor) (wide : i < length cursors)
     (g : (k : ℕ) → k < limit → Gives st x from k)
   where
     abbrev pub read_to : ℕ → Bodies
-    read_to k = bodies_of (suc i) cells (set places i (x.place + k))
+    read_to k = bodies_of (suc i) (set cursors i (on_by k x))
 
     read_here : (k : ℕ) → body_at (read_to k) i ≡ on_by k x
-    read_here k = rw (← e, get_or-set_same places i (x.place + k) 0 wide)
+    read_here k = get_or-set_same cursors i (on_by k x) nowhere wide
 
     body_found : (k : ℕ) → k < limit → (budget steps : ℕ) (c : Coding) (d : Drawing)
         → seek (remove_spent (state_of budget steps Running (read_to k) c d st)) (drop at piece)
         ≡ Found (get_or st (from + k) 0) (state_of budget steps Running (read_to (suc k)) c d st) FromBody (drop at piece)
     unfolding seek seek_at remove_spent unspent depth_left from_body
     body_found k l budget steps c d =
-        let same : set cells i x.cell ≡ cells = rw e (set-get_or cells i 0) in
-        rw (read_here k, (g k l).left, read_here k, (g k l).read, same, set_set places i (x.place + k) (x.place + suc k))
+        rw (read_here k, (g k l).left, read_here k, (g k l).read, set_set cursors i (on_by k x) (on_by (suc k) x))
 
     pub body_feeds : Feeds piece st from limit st FromBody read_to (λ k. at)
     body_feeds = record { rest = λ k. drop at piece; sought = body_found; on = λ k. refl }
 
 -- Bytes of the piece that write no record
-module _ (piece : List ℕ) (at written budget steps : ℕ) (cells places : List ℕ) (d : Drawing) (out : List ℕ) (limit : ℕ)
+module _ (piece : List ℕ) (at written budget steps : ℕ) (cursors : List Cursor) (d : Drawing) (out : List ℕ) (limit : ℕ)
     (on : at + limit ≤ length piece) (few : limit ≤ budget - steps) (room : room_for_step ≤ length out - written)
   where
     abbrev quiet : ℕ → Bodies → Coding → List ℕ → Place
@@ -206,45 +205,45 @@ module _ (piece : List ℕ) (at written budget steps : ℕ) (cells places : List
         (subst (Walk piece x) (ap (λ (o : List ℕ). there (written + 0) o) (overwrite_none out written) ∙ ap (λ (m : ℕ). there m out) (add-zero written)) (step {n = budget - (steps + n) - 1} a (omega arith) t))
 
     idle_goes : (n : ℕ) (c e : Coding) (st st' : List ℕ) (b : ℕ) → react c st b ≡ React e st' Idle·action
-        → interpret (state_of budget n Running (bodies_of 0 cells places) c d st) FromPiece b ≡ Goes (state_of budget (suc n) Running (bodies_of 0 cells places) e d st') []
+        → interpret (state_of budget n Running (bodies_of 0 cursors) c d st) FromPiece b ≡ Goes (state_of budget (suc n) Running (bodies_of 0 cursors) e d st') []
     unfolding interpret opens_inside on_reaction on_outcome act
     idle_goes n c e st st' b h = rw h
 
     pub idle_walk : {x y : Coded} {n : ℕ} → Idle piece at x n y → n ≤ limit
-        → Walk piece (quiet 0 (bodies_of 0 cells places) x.coding x.store) (quiet n (bodies_of 0 cells places) y.coding y.store)
+        → Walk piece (quiet 0 (bodies_of 0 cursors) x.coding x.store) (quiet n (bodies_of 0 cursors) y.coding y.store)
     idle_walk Each-none l = none
     idle_walk (each_more {n} {y} {z} r e) l =
-        quiet_step n (bodies_of 0 cells places) (bodies_of 0 cells places) y.coding z.coding y.store z.store (state_of budget (steps + n) Running (bodies_of 0 cells places) y.coding d y.store) l
-        (idle_walk r (omega arith)) (none_spent budget (steps + n) cells places y.coding d y.store) refl
+        quiet_step n (bodies_of 0 cursors) (bodies_of 0 cursors) y.coding z.coding y.store z.store (state_of budget (steps + n) Running (bodies_of 0 cursors) y.coding d y.store) l
+        (idle_walk r (omega arith)) (none_spent budget (steps + n) cursors y.coding d y.store) refl
         (idle_goes (steps + n) y.coding z.coding y.store z.store (get_or piece (at + n) 0) e)
 
     -- The bodies after so many calls of empty bodies
     abbrev pub called : ℕ → Bodies
-    called zero = bodies_of 0 cells places
-    called (suc n) = bodies_of 1 (set cells 0 0) (set places 0 0)
+    called zero = bodies_of 0 cursors
+    called (suc n) = bodies_of 1 (set cursors 0 nowhere)
 
     module _ (c : Coding) (st : List ℕ) (h : c.waiting ≡ Nothing) (m : set_of c.sets.used c.sets ≡ Macro) where
       call_goes : (n : ℕ) (y : Bodies) (b : ℕ) → y.depth ≡ 0 → 32 ≤ b → b ≤ 127 → first_of c.firsts b ≡ 0
-          → interpret (state_of budget n Running y c d st) FromPiece b ≡ Goes (state_of budget (suc n) Running (bodies_of 1 (set y.cells 0 0) (set y.places 0 0)) c d st) []
+          → interpret (state_of budget n Running y c d st) FromPiece b ≡ Goes (state_of budget (suc n) Running (bodies_of 1 (set y.cursors 0 nowhere)) c d st) []
       unfolding interpret opens_inside on_reaction call graphic
       call_goes n y b e l k f = rw (react_graphic c st b h l k, m, e, f)
 
-      empty_spent : (n : ℕ) → remove_spent (state_of budget n Running (called 1) c d st) ≡ state_of budget n Running (bodies_of 0 (set cells 0 0) (set places 0 0)) c d st
+      empty_spent : (n : ℕ) → remove_spent (state_of budget n Running (called 1) c d st) ≡ state_of budget n Running (bodies_of 0 (set cursors 0 nowhere)) c d st
       unfolding remove_spent unspent depth_left has_left
-      empty_spent n = rw (first_zero cells)
+      empty_spent n = rw (first_nowhere cursors)
 
       call_step : {x : Place} (n : ℕ) → n < limit → NamesEmpty c.firsts (get_or piece (at + n) 0)
           → Walk piece x (quiet n (called n) c st) → Walk piece x (quiet (suc n) (called (suc n)) c st)
       call_step zero l f a =
           quiet_step 0 (called 0) (called 1) c c st st (state_of budget (steps + 0) Running (called 0) c d st) l a
-          (none_spent budget (steps + 0) cells places c d st) refl
+          (none_spent budget (steps + 0) cursors c d st) refl
           (call_goes (steps + 0) (called 0) (get_or piece (at + 0) 0) refl f.0.0 f.0.1 f.1)
       call_step (suc n) l f a =
-          let y = bodies_of 0 (set cells 0 0) (set places 0 0) in
+          let y = bodies_of 0 (set cursors 0 nowhere) in
           quiet_step (suc n) (called 1) (called 1) c c st st (state_of budget (steps + suc n) Running y c d st) l a
           (empty_spent (steps + suc n)) refl
           (call_goes (steps + suc n) y (get_or piece (at + suc n) 0) refl f.0.0 f.0.1 f.1
-          ∙ rw (set_set cells 0 0 0, set_set places 0 0 0))
+          ∙ rw (set_set cursors 0 nowhere nowhere))
 
       pub calls_walk : (n : ℕ) → CallsEmpty c.firsts piece at n → n ≤ limit → Walk piece (quiet 0 (called 0) c st) (quiet n (called n) c st)
       calls_walk zero f l = none

@@ -11,10 +11,10 @@ ghost use Rattle.coded_turns.specs.Walk.{place_at, Walk};
 
 use crate::{awaits_nothing, is_marked, reach, set_in_use};
 use bodies::calls::empty_calls;
-use bodies::{depth_left, set_body};
+use bodies::depth_left;
 use coding_runs::run_idle;
-use progress::{Progress, after_coding, at_depth};
-use rules::{Cursor, Element, ROOM_FOR_STEP, Set, Waiting};
+use progress::Progress;
+use rules::{Cursor, Element, NOWHERE, ROOM_FOR_STEP, Set, Waiting};
 use tables::sets::in_use;
 
 // The control 0/14, which puts G1 in use.
@@ -23,12 +23,13 @@ const SHIFT_OUT: u8 = 14;
 // The control 0/15, which puts G0 in use.
 const SHIFT_IN: u8 = 15;
 
+// In these runs `to`, as far as the budget lasts, stands beside the piece, which is lent whole: the walk that is promised is along it.
+
 // Calls of empty bodies from the piece. Each is removed before the next step.
 fn call_piece(
     progress: Progress,
     to: usize,
-    cells: &mut [u8; 8],
-    places: &mut [u8; 8],
+    cursors: &mut [Cursor; 8],
     firsts: &[u8; 96],
     piece: &[u8],
 ) -> Progress
@@ -38,20 +39,22 @@ fn call_piece(
     ensures walk { (budget : ℕ) (d : Drawing) (st out : List ℕ) → to - progress.at ≤ budget - progress.steps
         → room_for_step ≤ length out - progress.written
         → Walk piece.now
-        (place_at budget progress cells.old places.old firsts.now d st out)
-        (place_at budget result cells.new places.new firsts.now d st out) }
+        (place_at budget progress cursors.old firsts.now d st out)
+        (place_at budget result cursors.new firsts.now d st out) }
     ensures most { result.steps - progress.steps ≤ to - progress.at }
     ensures still { result.steps ≤ progress.steps → result.depth ≡ 0 }
 {
-    let at = progress.at;
-    let count = empty_calls(firsts, piece, at, to);
+    let count = empty_calls(firsts, &piece[progress.at..to]);
     if count == 0 {
         return progress;
     }
-    set_body(cells, places, 0, Cursor { cell: 0, place: 0 });
-    let sets = progress.sets;
-    let waiting = progress.waiting;
-    after_coding(progress, count, 1, sets, waiting)
+    cursors[0] = NOWHERE;
+    Progress {
+        at: progress.at + count,
+        steps: progress.steps + (count as u32),
+        depth: 1,
+        ..progress
+    }
 }
 
 // Bytes of the piece that ask nothing of drawing: controls, and what is waited for.
@@ -64,29 +67,30 @@ fn idle_piece(
 ) -> Progress
     requires { (progress.depth ≡ 0) × (Sized store.old) × (waiting_fits progress.waiting ≡ true) × (progress.at ≤ to)
         × (to ≤ length piece.now) × (progress.steps + (to - progress.at) ≤ 4294967295) }
-    ensures walk { (budget : ℕ) (cells places : List ℕ) (d : Drawing) (out : List ℕ) → to - progress.at ≤ budget - progress.steps
+    ensures walk { (budget : ℕ) (cursors : List Cursor) (d : Drawing) (out : List ℕ) → to - progress.at ≤ budget - progress.steps
         → room_for_step ≤ length out - progress.written
         → Walk piece.now
-        (place_at budget progress cells places firsts.old d store.old out)
-        (place_at budget result cells places firsts.new d store.new out) }
+        (place_at budget progress cursors firsts.old d store.old out)
+        (place_at budget result cursors firsts.new d store.new out) }
     ensures most { result.steps - progress.steps ≤ to - progress.at }
     ensures still { result.steps ≤ progress.steps → result.depth ≡ 0 }
 {
-    let at = progress.at;
-    let sets = progress.sets;
-    let waiting = progress.waiting;
-    let idled = run_idle(sets, waiting, firsts, store, piece, at, to);
-    let sets = idled.sets;
-    let waiting = idled.waiting;
-    after_coding(progress, idled.count, 0, sets, waiting)
+    let bytes = &piece[progress.at..to];
+    let idled = run_idle(progress.sets, progress.waiting, firsts, store, bytes);
+    Progress {
+        at: progress.at + idled.count,
+        sets: idled.sets,
+        waiting: idled.waiting,
+        steps: progress.steps + (idled.count as u32),
+        ..progress
+    }
 }
 
 // Names of the piece that call empty bodies, where Macro is in use.
 fn names_piece(
     progress: Progress,
     to: usize,
-    cells: &mut [u8; 8],
-    places: &mut [u8; 8],
+    cursors: &mut [Cursor; 8],
     firsts: &[u8; 96],
     piece: &[u8],
 ) -> Progress
@@ -95,15 +99,15 @@ fn names_piece(
     ensures walk { (budget : ℕ) (d : Drawing) (st out : List ℕ) → to - progress.at ≤ budget - progress.steps
         → room_for_step ≤ length out - progress.written
         → Walk piece.now
-        (place_at budget progress cells.old places.old firsts.now d st out)
-        (place_at budget result cells.new places.new firsts.now d st out) }
+        (place_at budget progress cursors.old firsts.now d st out)
+        (place_at budget result cursors.new firsts.now d st out) }
     ensures most { result.steps - progress.steps ≤ to - progress.at }
     ensures still { result.steps ≤ progress.steps → result.depth ≡ 0 }
 {
-    if let Set::Macro = set_in_use(progress) {
-        return call_piece(progress, to, cells, places, firsts, piece);
+    match set_in_use(progress) {
+        Set::Macro => call_piece(progress, to, cursors, firsts, piece),
+        _ => progress,
     }
-    progress
 }
 
 // A locking shift of the piece.
@@ -111,12 +115,12 @@ fn lock(progress: Progress, used: Element) -> Progress
     requires { (progress.steps + 1 ≤ 4294967295) × (progress.at + 1 ≤ 18446744073709551615) }
     ensures { result ≡ coded_on 1 progress.depth (in_use used progress.sets) progress.waiting progress }
 {
-    let mut progress = progress;
-    progress.at = progress.at + 1;
-    progress.steps = progress.steps + 1;
-    let sets = in_use(used, progress.sets);
-    progress.sets = sets;
-    progress
+    Progress {
+        at: progress.at + 1,
+        steps: progress.steps + 1,
+        sets: in_use(used, progress.sets),
+        ..progress
+    }
 }
 
 // Bytes of the piece that write no record, with so many bytes of the output free.
@@ -124,22 +128,21 @@ fn code_piece(
     progress: Progress,
     budget: u32,
     free: usize,
-    cells: &mut [u8; 8],
-    places: &mut [u8; 8],
+    cursors: &mut [Cursor; 8],
     firsts: &mut [u8; 96],
     store: &mut [u8],
     piece: &[u8],
 ) -> Progress
     requires { (Sized store.old) × (waiting_fits progress.waiting ≡ true) × (progress.at ≤ length piece.now)
-        × NoneSpent progress.depth cells.old places.old store.old }
+        × NoneSpent progress.depth cursors.old store.old }
     ensures walk { (d : Drawing) (out : List ℕ) → free ≡ length out - progress.written
         → Walk piece.now
-        (place_at budget progress cells.old places.old firsts.old d store.old
+        (place_at budget progress cursors.old firsts.old d store.old
         out)
-        (place_at budget result cells.new places.new firsts.new d store.new out) }
+        (place_at budget result cursors.new firsts.new d store.new out) }
     ensures most { result.steps - progress.steps ≤ budget - progress.steps }
     ensures spent { result.steps ≤ progress.steps
-        → NoneSpent result.depth cells.new places.new store.new }
+        → NoneSpent result.depth cursors.new store.new }
 {
     if progress.depth != 0 {
         return progress;
@@ -154,7 +157,7 @@ fn code_piece(
     }
     let waiting = progress.waiting;
     if awaits_nothing(waiting) && 32 <= piece[at] {
-        return names_piece(progress, to, cells, places, firsts, piece);
+        return names_piece(progress, to, cursors, firsts, piece);
     }
     if awaits_nothing(waiting) && piece[at] == SHIFT_OUT {
         return lock(progress, Element::G1);
@@ -173,8 +176,7 @@ pub fn run_coded(
     progress: Progress,
     budget: u32,
     free: usize,
-    cells: &mut [u8; 8],
-    places: &mut [u8; 8],
+    cursors: &mut [Cursor; 8],
     firsts: &mut [u8; 96],
     store: &mut [u8],
     piece: &[u8],
@@ -183,14 +185,14 @@ pub fn run_coded(
         × (progress.at ≤ length piece.now) }
     ensures walk { (d : Drawing) (out : List ℕ) → free ≡ length out - progress.written
         → Walk piece.now
-        (place_at budget progress cells.old places.old firsts.old d store.old
+        (place_at budget progress cursors.old firsts.old d store.old
         out)
-        (place_at budget result cells.new places.new firsts.new d store.new out) }
+        (place_at budget result cursors.new firsts.new d store.new out) }
     ensures most { result.steps - progress.steps ≤ budget - progress.steps }
     ensures spent { result.steps ≤ progress.steps
-        → NoneSpent result.depth cells.new places.new store.new }
+        → NoneSpent result.depth cursors.new store.new }
 {
-    let depth = depth_left(store, cells, places, progress.depth);
-    let progress = at_depth(progress, depth);
-    code_piece(progress, budget, free, cells, places, firsts, store, piece)
+    let depth = depth_left(store, cursors, progress.depth);
+    let progress = Progress { depth, ..progress };
+    code_piece(progress, budget, free, cursors, firsts, store, piece)
 }

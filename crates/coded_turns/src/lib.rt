@@ -29,30 +29,20 @@ pub fn reach(from: usize, end: usize, budget: u32, steps: u32) -> usize
 pub fn awaits_nothing(waiting: Waiting) -> bool
     ensures { result ≡ true → waiting ≡ Waiting.Nothing }
 {
-    if let Waiting::Nothing = waiting {
-        return true;
-    }
-    false
+    matches!(waiting, Waiting::Nothing)
 }
 
 // Whether a byte is a control that has a record and waits for no other byte.
 pub fn is_marked(byte: u8) -> bool {
-    match class_of(byte) {
-        Class::Below(control) => match control {
-            Control::Recorded => true,
-            Control::Cancels => true,
-            Control::Formats(_) => true,
-            _ => false,
-        },
-        _ => false,
-    }
+    matches!(
+        class_of(byte),
+        Class::Below(Control::Recorded | Control::Cancels | Control::Formats(_))
+    )
 }
 
 // The set that bytes are read from where nothing is waited for.
 pub fn set_in_use(progress: Progress) -> Set
     ensures { result ≡ set_of progress.sets.used progress.sets }
 {
-    let sets = progress.sets;
-    let used = sets.used;
-    set_of(used, sets)
+    set_of(progress.sets.used, progress.sets)
 }

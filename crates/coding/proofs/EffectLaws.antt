@@ -1,6 +1,6 @@
 -- What the step around the coding layer leans on: only a byte that asks nothing of drawing changes first cells or store, so that a
 -- refusal by drawing has none to undo; and a call's name is the byte, 2/0 to 7/15, so that it has a first cell.
-use Rattle.std.specs.Prelude.{◌≡◌, ◌⊎◌, ◌≤◌}
+use Rattle.std.specs.Prelude.{◌≡◌, ◌⊎◌, ◌≤◌, Option, Some, None}
 use Rattle.coding.specs.Prelude.{refl, Bool, true, false, List, inl, inr, ℕ, ltb-false, ltb, eqb}
 use Rattle.rules.proofs.Bools.{pick_all, pick_by}
 use Rattle.rules.specs.declared.Action.{Action}
@@ -11,8 +11,6 @@ use Rattle.rules.specs.declared.Coding.{Coding}
 use Rattle.rules.specs.declared.Control.{Control}
 use Rattle.rules.specs.declared.Control.TheVariants.{Ignored, Locks, Shifts, Escapes, Recorded, Cancels, Formats, Positions}
 use Rattle.rules.specs.declared.Definition.{Definition}
-use Rattle.rules.specs.declared.Designated.{Designated}
-use Rattle.rules.specs.declared.Designated.TheVariants.{Names, Unassigned}
 use Rattle.rules.specs.declared.Element.{Element}
 use Rattle.rules.specs.declared.Final.{Final}
 use Rattle.rules.specs.declared.Final.TheVariants.{Opens, Refuses, UsesG2, UsesG3, Closes, NoMeaning}
@@ -81,10 +79,10 @@ module _ (c : Coding) (st : List ℕ) (b : ℕ) where
   escape_told Closes = inl (refl, refl)
   escape_told NoMeaning = inl (refl, refl)
 
-  designation_told : (x : Designated) (e : Element) → Told c st b (designation x e (wait Nothing c) st)
+  designation_told : (x : Option Set) (e : Element) → Told c st b (designation x e (wait Nothing c) st)
   unfolding designation
-  designation_told (Names x) e = inl (refl, refl)
-  designation_told Unassigned e = inl (refl, refl)
+  designation_told (Some x) e = inl (refl, refl)
+  designation_told None e = inl (refl, refl)
 
   named_told : (x : Freeing) → Told c st b (named x b c)
   unfolding named

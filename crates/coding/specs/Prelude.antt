@@ -1,3 +1,3 @@
 -- What the files of this crate use of the libraries, under one name
 pub use Rattle.std.specs.Prelude.{refl, Bool, true, false, List, [], ℕ, ltb, eqb, leb}
-pub use Rattle.std.proofs.Common.{◌∙◌, inl, inr, ltb-false, lt-ltb, le-ltb, leb-true, eq-eqb, ne_eqb, rules}
+pub use Rattle.std.proofs.Common.{◌∙◌, inl, inr, ltb-false, lt-ltb, le-ltb, leb-true, rules}

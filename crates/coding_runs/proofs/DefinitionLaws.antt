@@ -5,14 +5,12 @@ use Rattle.rules.specs.declared.Action.TheVariants.{Idle as Idle·action}
 use Rattle.rules.specs.declared.Coding.{Coding}
 use Rattle.rules.specs.declared.Definition.{Definition}
 use Rattle.rules.specs.declared.Sets.{Sets}
-use Rattle.rules.specs.declared.Waiting.{Waiting}
 use Rattle.rules.specs.declared.Waiting.TheVariants.{Nothing, Escape, Name, Body, BodyEscape}
 use Rattle.rules.specs.Numbers.{esc}
 use Rattle.rules.specs.Coding.{React, in_body, inner_of, in_body_escape, final_of, escape, controls, control, class_of, react_to, react}
 use Rattle.store.specs.Each.{none}
 use Rattle.store.proofs.EachLaws.{each_on}
 use Rattle.coding_runs.specs.Idle.{coded, Idle}
-use Rattle.coding_runs.specs.declared.defining.Defined.{Defined}
 use Rattle.reactions.specs.View.{coding_of}
 
 -- The reactions to ESC 4/0 where nothing is waited for, and to ESC 4/5 in a body
@@ -50,8 +48,3 @@ module _ (bytes : List ℕ) (from : ℕ) where
 
     pub end_idle : (d : Definition) → get_or bytes (from + 1) 0 ≡ 69 → Idle bytes from (coded (coding_of s (Body d) f) st) 2 (coded (coding_of s Nothing f) st)
     end_idle d e = two_idle _ _ _ st esc 69 escaped e (body_escapes s f st d) (ends s f st d)
-
-  -- No byte, from what the call hands back
-  pub none_idle : (s : Sets) (w : Waiting) (f st : List ℕ) (r : Defined) → r ≡ record { count = 0; waiting = w }
-      → Idle bytes from (coded (coding_of s w f) st) r.count (coded (coding_of s r.waiting f) st)
-  none_idle s w f st r e = rw e none

@@ -1,9 +1,6 @@
 -- Runs of idle bytes, from what the calls hand back.
-use Rattle.std.specs.Prelude.{◌≡◌, ◌∷◌, ◌⊎◌, ◌+◌, ◌≤◌}
-use Rattle.coding_runs.specs.Prelude.{refl, sym, ap, ◌∙◌, true, false, List, [], inl, inr, ℕ, zero, suc, arith, le-ltb, ne_eqb, get_or}
-use types.Run.{OneOf, miss}
-use denote.Enum.Declared.{tag_of}
-use Rattle.rules.specs.contracts.Action.{the_type as the-action}
+use Rattle.std.specs.Prelude.{◌≡◌, ◌⊎◌, ◌+◌, ◌≤◌}
+use Rattle.coding_runs.specs.Prelude.{refl, sym, ap, ◌∙◌, true, false, List, inl, inr, ℕ, zero, suc, arith, le-ltb, ne_eqb, get_or}
 use Rattle.rules.proofs.Bools.{true_false, false_true}
 use Rattle.rules.proofs.CodingRanges.{ReactionFits, react_fits}
 use Rattle.rules.specs.declared.Action.{Action}
@@ -22,7 +19,7 @@ use Rattle.store.proofs.EachLaws.{each_as}
 use Rattle.coding_runs.specs.Idle.{Coded, coded, IdleByte, Idle, idle_action, idle_effect}
 use Rattle.reactions.specs.View.{coding_of, effect_on, sets_after, reaction_of, AsLentBy, AsLent}
 use Rattle.reactions.specs.declared.Effect.{Effect}
-use Rattle.reactions.specs.declared.Effect.TheVariants.{Refuses, Calls, Acts, Uses, Designates}
+use Rattle.reactions.specs.declared.Effect.TheVariants.{Calls, Acts, Uses, Designates}
 use Rattle.reactions.specs.declared.Reacted.{Reacted}
 use Rattle.coding.proofs.EffectLaws.{act_kept}
 
@@ -38,11 +35,11 @@ module _ (bytes : List ℕ) (from : ℕ) (x : Coded) where
   idle_none zero y h none = refl
   idle_none (suc n) y h (more d e) = absurd (omega arith)
 
-pub idle_still : (bytes : List ℕ) (from at n m : ℕ) (x : Coded) (s : Sets) (w w₁ : Waiting) (f f₁ st st₁ : List ℕ) → m ≤ 0
-    → Idle bytes at (coded (coding_of s w f) st) m (coded (coding_of s w₁ f₁) st₁)
-    → Idle bytes from x n (coded (coding_of s w f) st) → Idle bytes from x n (coded (coding_of s w f₁) st₁)
-idle_still bytes from at n m x s w w₁ f f₁ st st₁ h d r =
-    let e = idle_none bytes at (coded (coding_of s w f) st) m (coded (coding_of s w₁ f₁) st₁) h d in
+pub idle_still : (bytes rest : List ℕ) (n m : ℕ) (x : Coded) (s : Sets) (w w₁ : Waiting) (f f₁ st st₁ : List ℕ) → m ≤ 0
+    → Idle rest 0 (coded (coding_of s w f) st) m (coded (coding_of s w₁ f₁) st₁)
+    → Idle bytes 0 x n (coded (coding_of s w f) st) → Idle bytes 0 x n (coded (coding_of s w f₁) st₁)
+idle_still bytes rest n m x s w w₁ f f₁ st st₁ h d r =
+    let e = idle_none rest 0 (coded (coding_of s w f) st) m (coded (coding_of s w₁ f₁) st₁) h d in
     rw (ap (λ (y : Coded). y.coding.firsts) e, ap (λ (y : Coded). y.store) e) r
 
 -- A run of bytes that a definition stores
@@ -58,22 +55,6 @@ module _ (s : Sets) where
   stores_idle = each_as within body_idle
 
 -- Which actions and effects are idle
-abbrev not_idle : List ℕ
-not_idle = 1 ∷ 2 ∷ 3 ∷ 4 ∷ 5 ∷ 6 ∷ 7 ∷ 8 ∷ 9 ∷ []
-
-pub others_act : (a : Action) → OneOf not_idle (tag_of the-action a) → false ≡ idle_action a
-unfolding idle_action
-others_act Idle·action h = absurd (miss not_idle 0 tt h)
-others_act Close h = refl
-others_act (Control b) h = refl
-others_act (Cancel b) h = refl
-others_act (Format f b) h = refl
-others_act (Reset b) h = refl
-others_act (Position x r c) h = refl
-others_act (Character x b) h = refl
-others_act (Opcode b) h = refl
-others_act (Data b) h = refl
-
 idle_action_lem : (a : Action) → idle_action a ≡ true → a ≡ Idle·action
 unfolding idle_action
 idle_action_lem Idle·action h = refl
@@ -89,7 +70,6 @@ idle_action_lem (Data b) h = false_true h
 
 idle_effect_lem : (x : Effect) (c : Coding) (st : List ℕ) → idle_effect x ≡ true → effect_on x c st ≡ React c st Idle·action
 unfolding idle_effect
-idle_effect_lem (Refuses r) c st h = false_true h
 idle_effect_lem (Calls n) c st h = false_true h
 idle_effect_lem (Acts a) c st h = ap (React c st) (idle_action_lem a h)
 idle_effect_lem (Uses e) c st h = refl
@@ -112,7 +92,6 @@ module _ (s : Sets) (w : Waiting) (f st : List ℕ) (b : ℕ) (r : Reacted) (f�
       acts a n (inr q) = true_false (rw q at n)
 
       by : (x : Effect) → r.effect ≡ x → idle_effect x ≡ false → (AsLentBy x f f₁) × (AsLentBy x st st₁) → (f₁ ≡ f) × (st₁ ≡ st)
-      by (Refuses z) q n p = p
       by (Calls m) q n p = p
       by (Acts a) q n p = acts a n (act_kept (coding_of s w f) st b r f₁ st₁ e a q)
       by (Uses x) q n p = p

@@ -7,7 +7,7 @@ use Rattle.rules.specs.declared.Coding.{Coding}
 use Rattle.rules.specs.Coding.{React, react}
 use Rattle.store.specs.Each.{Each}
 use Rattle.reactions.specs.declared.Effect.{Effect}
-use Rattle.reactions.specs.declared.Effect.TheVariants.{Refuses, Calls, Acts, Uses, Designates}
+use Rattle.reactions.specs.declared.Effect.TheVariants.{Calls, Acts, Uses, Designates}
 
 -- The state of the coding layer, and the store
 pub record Coded : Type 0 where
@@ -38,7 +38,6 @@ idle_action (Opcode b) = false
 idle_action (Data b) = false
 
 unfoldable pub idle_effect : Effect → Bool
-idle_effect (Refuses r) = false
 idle_effect (Calls n) = false
 idle_effect (Acts a) = idle_action a
 idle_effect (Uses e) = true

@@ -1,12 +1,12 @@
 // Runs of a definition's bytes: ESC 4/0 that opens it, its body, ESC 4/5 that ends it.
-ghost use Rattle.std.specs.Prelude.{length, get_or, true, List, ◌≡◌, ℕ, ◌+◌, ◌≤◌};
+ghost use Rattle.std.specs.Prelude.{length, get_or, true, List, ◌≡◌, ℕ, ◌≤◌, ◌↔◌, IsTrue};
 ghost use Rattle.rules.specs.Numbers.{esc};
 ghost use Rattle.rules.specs.Ranges.{waiting_fits};
 ghost use Rattle.store.specs.Lent.{Sized, IsName};
 ghost use Rattle.coding_runs.specs.Idle.{Idle, coded};
 ghost use Rattle.reactions.specs.View.{coding_of};
 
-use definitions::filling::fill;
+use definitions::filling::{Filled, fill};
 use rules::{Definition, ESC, Sets, Waiting};
 
 // After ESC, 4/0 opens a definition and 4/5 ends one.
@@ -21,38 +21,30 @@ pub struct Defined {
     pub waiting: Waiting,
 }
 
-fn none_read(waiting: Waiting) -> Defined
-    ensures { result ≡ record { count = 0; waiting = waiting } }
+// Whether the bytes begin with ESC and the given one.
+fn escape_then(bytes: &[u8], last: u8) -> bool
+    ensures { IsTrue result
+        ↔ (2 ≤ length bytes.now) × (get_or bytes.now 0 0 ≡ esc) × (get_or bytes.now 1 0 ≡ last) }
 {
-    Defined { count: 0, waiting }
+    2 <= bytes.len() && bytes[0] == ESC && bytes[1] == last
 }
 
-// Whether the next two bytes are ESC and the given one.
-fn escape_then(bytes: &[u8], from: usize, to: usize, last: u8) -> bool
-    requires { (from ≤ to) × (to ≤ length bytes.now) }
-    ensures { result ≡ true
-        → (from + 2 ≤ to) × (get_or bytes.now from 0 ≡ esc) × (get_or bytes.now (from + 1) 0 ≡ last) }
-{
-    if to - from < 2 {
-        return false;
-    }
-    bytes[from] == ESC && bytes[from + 1] == last
-}
-
-fn run_opening(bytes: &[u8], from: usize, to: usize) -> Defined
-    requires { (from ≤ to) × (to ≤ length bytes.now) }
+fn run_opening(bytes: &[u8]) -> Defined
     ensures ran { (s : Sets) (f st : List ℕ)
-        → Idle bytes.now from (coded (coding_of s Waiting.Nothing f) st) result.count
+        → Idle bytes.now 0 (coded (coding_of s Waiting.Nothing f) st) result.count
         (coded (coding_of s result.waiting f) st) }
-    ensures most { from + result.count ≤ to }
+    ensures most { result.count ≤ length bytes.now }
 {
-    if escape_then(bytes, from, to, OPENS) {
+    if escape_then(bytes, OPENS) {
         return Defined {
             count: 2,
             waiting: Waiting::Name,
         };
     }
-    none_read(Waiting::Nothing)
+    Defined {
+        count: 0,
+        waiting: Waiting::Nothing,
+    }
 }
 
 fn run_body(
@@ -60,31 +52,23 @@ fn run_body(
     firsts: &mut [u8; 96],
     store: &mut [u8],
     bytes: &[u8],
-    from: usize,
-    to: usize,
 ) -> Defined
-    requires { (Sized store.old) × (IsName definition.name) × (from ≤ to) × (to ≤ length bytes.now) }
+    requires { (Sized store.old) × (IsName definition.name) }
     ensures ran { (s : Sets)
-        → Idle bytes.now from
+        → Idle bytes.now 0
         (coded (coding_of s (Waiting.Body definition) firsts.old) store.old) result.count
         (coded (coding_of s result.waiting firsts.new) store.new) }
-    ensures most { from + result.count ≤ to }
+    ensures most { result.count ≤ length bytes.now }
 {
-    let filled = fill(store, firsts, definition, bytes, from, to);
-    let count = filled.count;
-    if escape_then(bytes, from + count, to, ENDS) {
+    let Filled { count, last } = fill(store, firsts, definition, bytes);
+    if escape_then(&bytes[count..], ENDS) {
         return Defined {
             count: count + 2,
             waiting: Waiting::Nothing,
         };
     }
-    Defined {
-        count,
-        waiting: Waiting::Body(Definition {
-            name: definition.name,
-            last: filled.last,
-        }),
-    }
+    let waiting = Waiting::Body(Definition { last, ..definition });
+    Defined { count, waiting }
 }
 
 // Reads bytes that open, fill or end a definition. It may stop anywhere.
@@ -93,18 +77,16 @@ pub(crate) fn run_definition(
     firsts: &mut [u8; 96],
     store: &mut [u8],
     bytes: &[u8],
-    from: usize,
-    to: usize,
 ) -> Defined
-    requires { (Sized store.old) × (waiting_fits waiting ≡ true) × (from ≤ to) × (to ≤ length bytes.now) }
+    requires { (Sized store.old) × (waiting_fits waiting ≡ true) }
     ensures ran { (s : Sets)
-        → Idle bytes.now from (coded (coding_of s waiting firsts.old) store.old)
+        → Idle bytes.now 0 (coded (coding_of s waiting firsts.old) store.old)
         result.count (coded (coding_of s result.waiting firsts.new) store.new) }
-    ensures most { from + result.count ≤ to }
+    ensures most { result.count ≤ length bytes.now }
 {
     match waiting {
-        Waiting::Nothing => run_opening(bytes, from, to),
-        Waiting::Body(definition) => run_body(definition, firsts, store, bytes, from, to),
-        _ => none_read(waiting),
+        Waiting::Nothing => run_opening(bytes),
+        Waiting::Body(definition) => run_body(definition, firsts, store, bytes),
+        _ => Defined { count: 0, waiting },
     }
 }

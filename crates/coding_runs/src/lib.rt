@@ -3,7 +3,7 @@
 
 pub mod defining;
 
-ghost use Rattle.std.specs.Prelude.{length, true, ◌≡◌, ◌+◌, ◌<◌, ◌≤◌};
+ghost use Rattle.std.specs.Prelude.{length, true, ◌≡◌, ◌≤◌};
 ghost use Rattle.rules.specs.Ranges.{waiting_fits};
 ghost use Rattle.store.specs.Lent.{Sized};
 ghost use Rattle.coding_runs.specs.Idle.{Idle, coded, idle_effect};
@@ -22,39 +22,19 @@ pub struct Idled {
     pub waiting: Waiting,
 }
 
+#[tactic(auto, unfolding(crate::specs::Idle::idle_effect, crate::specs::Idle::idle_action))]
 fn is_idle(effect: Effect) -> bool
     ensures { result ≡ idle_effect effect }
 {
-    match effect {
-        Effect::Refuses(_) => false,
-        Effect::Calls(_) => false,
-        Effect::Acts(action) => match action {
-            Action::Idle => true,
-            _ => false,
-        },
-        Effect::Uses(_) => true,
-        Effect::Designates(_, _) => true,
-    }
+    matches!(
+        effect,
+        Effect::Acts(Action::Idle) | Effect::Uses(_) | Effect::Designates(_, _)
+    )
 }
 
-// Whether the byte is read by itself from a set: nothing is waited for, and it is no control.
+// Whether the byte is read by itself from a set: nothing is waited for, and it is no control. Such a byte is seldom idle.
 fn is_graphic(waiting: Waiting, byte: u8) -> bool {
-    match waiting {
-        Waiting::Nothing => 32 <= byte,
-        Waiting::Shifted(_) => 32 <= byte,
-        _ => false,
-    }
-}
-
-// Whether to go on with the byte at the place, if there is one. A run may end anywhere; a byte read by itself from a set is seldom idle.
-fn may_be_idle(waiting: Waiting, bytes: &[u8], at: usize, to: usize) -> bool
-    requires { (at ≤ to) × (to ≤ length bytes.now) }
-    ensures { result ≡ true → at < to }
-{
-    if at == to {
-        return false;
-    }
-    !is_graphic(waiting, bytes[at])
+    32 <= byte && matches!(waiting, Waiting::Nothing | Waiting::Shifted(_))
 }
 
 // Reads idle bytes, up to one that is not. It may stop earlier.
@@ -64,25 +44,24 @@ pub fn run_idle(
     firsts: &mut [u8; 96],
     store: &mut [u8],
     bytes: &[u8],
-    from: usize,
-    to: usize,
 ) -> Idled
-    requires { (Sized store.old) × (waiting_fits waiting ≡ true) × (from ≤ to) × (to ≤ length bytes.now) }
-    ensures ran { Idle bytes.now from (coded (coding_of sets waiting firsts.old) store.old)
+    requires { (Sized store.old) × (waiting_fits waiting ≡ true) }
+    ensures ran { Idle bytes.now 0 (coded (coding_of sets waiting firsts.old) store.old)
         result.count (coded (coding_of result.sets result.waiting firsts.new) store.new) }
-    ensures most { from + result.count ≤ to }
+    ensures most { result.count ≤ length bytes.now }
 {
     let mut sets = sets;
     let mut waiting = waiting;
-    let mut count: usize = 0;
+    let mut count = 0;
+    // By stretches of a definition and single bytes, so no `for` goes over them.
     loop {
-        let defined = run_definition(waiting, firsts, store, bytes, from + count, to);
+        let defined = run_definition(waiting, firsts, store, &bytes[count..]);
         if 0 < defined.count {
             count += defined.count;
             waiting = defined.waiting;
             continue;
         }
-        if !may_be_idle(waiting, bytes, from + count, to) {
+        if count == bytes.len() || is_graphic(waiting, bytes[count]) {
             return Idled {
                 count,
                 sets,
@@ -90,16 +69,21 @@ pub fn run_idle(
             };
         }
         let set = set_read(waiting, sets);
-        let reacted = react(set, waiting, firsts, store, bytes[from + count]);
-        let effect = reacted.effect;
-        if !is_idle(effect) {
+        let Ok(reacted) = react(set, waiting, firsts, store, bytes[count]) else {
+            return Idled {
+                count,
+                sets,
+                waiting,
+            };
+        };
+        if !is_idle(reacted.effect) {
             return Idled {
                 count,
                 sets,
                 waiting,
             };
         }
-        sets = sets_after(effect, sets);
+        sets = sets_after(reacted.effect, sets);
         waiting = reacted.waiting;
         count += 1;
     }

@@ -1,7 +1,7 @@
 // A run of the PDI set: points that come whole, opcodes and recorded controls.
 #![tactic(auto)]
 
-ghost use Rattle.std.specs.Prelude.{◌≡◌, true, false, ◌+◌, ◌≤◌, length};
+ghost use Rattle.std.specs.Prelude.{◌≡◌, true, false, ◌≤◌, length};
 ghost use Rattle.rules.specs.declared.Operand.{Operand};
 ghost use Rattle.rules.specs.declared.Role.{Role};
 ghost use Rattle.rules.specs.declared.Set.{Set};
@@ -14,34 +14,28 @@ ghost use Rattle.command_steps.specs.Asked.{asked};
 use command_steps::opening::open_next;
 use command_steps::points::point_due;
 use data_bytes::{role_due, with_due};
-use drawing_runs::Passed;
 use drawing_runs::strokes::is_stroke;
+use drawing_runs::{Moved, Ran};
 use figures::finishing::finishes_apart;
 use figures::tracing::{either, put_figure, target, trace};
 use opcodes::{row_of, row_place, rows};
-use operands::whole::{Whole, are_data, three_bytes};
+use operands::whole::{are_data, three_bytes};
 use records::head_of;
 use rules::{Command, Look, Point, ROOM_FOR_STEP, Role};
 use tables::controls::is_recorded;
 
-// Whether four points of three bytes come at a place.
-fn is_long(bytes: &[u8], place: usize, to: usize) -> bool
-    requires { (place ≤ to) × (to ≤ length bytes.now) }
-{
-    if to - place < 12 {
-        return false;
-    }
-    are_data(three_bytes(bytes, place))
-        && are_data(three_bytes(bytes, place + 3))
-        && are_data(three_bytes(bytes, place + 6))
-        && are_data(three_bytes(bytes, place + 9))
+// Whether four points of three bytes come next.
+fn is_long(bytes: &[u8]) -> bool {
+    12 <= bytes.len()
+        && are_data(three_bytes(bytes, 0))
+        && are_data(three_bytes(bytes, 3))
+        && are_data(three_bytes(bytes, 6))
+        && are_data(three_bytes(bytes, 9))
 }
 
 // Whether the points of the command just opened are left to the loop of strokes.
-fn leaves_strokes(opcode: u8, bytes: &[u8], place: usize, to: usize) -> bool
-    requires { (place ≤ to) × (to ≤ length bytes.now) }
-{
-    is_stroke(opcode) && is_long(bytes, place, to)
+fn leaves_strokes(opcode: u8, bytes: &[u8]) -> bool {
+    is_stroke(opcode) && is_long(bytes)
 }
 
 // Whether a byte is an opcode or a recorded control, and the open command finishes by a figure or none.
@@ -61,27 +55,17 @@ fn opens(role: Role, byte: u8) -> bool
 fn drops(role: Role, byte: u8, count: usize) -> bool
     ensures { result ≡ true → (role ≡ Role.Dropped) × (byte ≤ 127) × (1 ≤ count) }
 {
-    if count == 0 {
-        return false;
-    }
-    if 127 < byte {
-        return false;
-    }
-    if let Role::Dropped = role {
-        return true;
-    }
-    false
+    1 <= count && byte <= 127 && matches!(role, Role::Dropped)
 }
 
 // What so many bytes leave.
-fn after(count: usize, at: usize, moved: bool, point: Point, command: Command) -> Passed
-    ensures { result ≡ record { count = count; at = at; moved = moved; point = point; command = command } }
+fn after(count: usize, at: usize, moved: bool, point: Point, command: Command) -> Ran<Moved>
+    ensures { result ≡ record { count = count; at = at; left = record { moved = moved; point = point }; command = command } }
 {
-    Passed {
+    Ran {
         count,
         at,
-        moved,
-        point,
+        left: Moved { moved, point },
         command,
     }
 }
@@ -92,16 +76,13 @@ pub fn run_commands(
     command: Command,
     look: Look,
     bytes: &[u8],
-    from: usize,
-    to: usize,
     out: &mut [u8],
     at: usize,
-) -> Passed
-    requires { (domain_fits look.domain ≡ true) × (command_fits command ≡ true) × (from ≤ to)
-        × (to ≤ length bytes.now) × (at ≤ length out.old) }
+) -> Ran<Moved>
+    requires { (domain_fits look.domain ≡ true) × (command_fits command ≡ true) × (at ≤ length out.old) }
     ensures ran { (o : Operand) → o.count ≡ 0 → length o.bytes ≡ 8
-        → PassesTo bytes.now from point o command look at out.old result out.new }
-    ensures most { from + result.count ≤ to }
+        → PassesTo bytes.now 0 point o command look at out.old result out.new }
+    ensures most { result.count ≤ length bytes.now }
 {
     let ink = head_of(look, 0, 0, 0, 0);
     let domain = look.domain;
@@ -110,19 +91,20 @@ pub fn run_commands(
     let rows = rows();
     let mut row = row_of(command.opcode);
     let mut role = role_due(row, command);
-    let mut place = from;
     let mut at = at;
     let mut moved = false;
     let mut point = point;
     let mut command = command;
-    while place < to {
+    // A place, since a turn takes a byte or a whole operand.
+    let mut place: usize = 0;
+    while place < bytes.len() {
         if out.len() - at < ROOM_FOR_STEP {
-            return after(place - from, at, moved, point, command);
+            return after(place, at, moved, point, command);
         }
         let byte = bytes[place];
         if byte < 64 {
             if !opens(role, byte) {
-                return after(place - from, at, moved, point, command);
+                return after(place, at, moved, point, command);
             }
             let next = rows[row_place(byte)];
             let opened = open_next(byte, next, row, point, command, ink, pel, out, at);
@@ -133,21 +115,21 @@ pub fn run_commands(
             row = next;
             role = role_due(row, command);
             place += 1;
-            if leaves_strokes(byte, bytes, place, to) {
-                return after(place - from, at, moved, point, command);
+            if leaves_strokes(byte, &bytes[place..]) {
+                return after(place, at, moved, point, command);
             }
             continue;
         }
-        let whole = point_due(role, command.vertices, n, domain.three, bytes, place, to);
+        let whole = point_due(role, command.vertices, n, domain.three, &bytes[place..]);
         match whole {
-            Whole::Cut => {
-                if !drops(role, byte, place - from) {
-                    return after(place - from, at, moved, point, command);
+            None => {
+                if !drops(role, byte, place) {
+                    return after(place, at, moved, point, command);
                 }
                 place += 1;
                 continue;
             }
-            Whole::Whole(v) => {
+            Some(v) => {
                 let aimed = target(role, point, v);
                 let traced = trace(role, row, aimed.outside, aimed.point, point, command);
                 at = put_figure(traced.figure, ink, pel, out, at);
@@ -160,5 +142,5 @@ pub fn run_commands(
             }
         }
     }
-    after(place - from, at, moved, point, command)
+    after(place, at, moved, point, command)
 }

@@ -16,7 +16,7 @@ use Rattle.rules.specs.Numbers.{room_for_step}
 use Rattle.rules.specs.Text.{formatted}
 use Rattle.rules.specs.Drawing.{with_pen, no_operand, Outcome, NotDrawn, Draw, and_then, close, control_record, act}
 use Rattle.rules.proofs.Bools.{pick_yes, true_false}
-use Rattle.pens.specs.Tips.{caught_up, pen_of, tip_of}
+use Rattle.pens.specs.Tips.{caught_up, pen_of}
 use Rattle.pens.specs.declared.tips.Tip.{Tip}
 use Rattle.pens.proofs.TipLaws.{caught_follows}
 use Rattle.figures.specs.Carried.{Carried, carry, drawing_of}
@@ -52,12 +52,6 @@ followed false true t p q o e = refl
 followed true false t p q o e = λ i. record { point = sym (e refl) i; text = caught_up true (sym (e refl) i) t; operand = no_operand }
 followed false false t p q o e = λ i. record { point = sym (e refl) i; text = t; operand = no_operand }
 
--- The pen that it leaves, apart from its text v
-pub format_put : (f : Effector) (q : Point) (t u v : Text) (p : Pen) (y : Tip) → u ≡ t → p ≡ formatted f (record { point = q; text = u; operand = no_operand }) → v ≡ p.text → y ≡ tip_of p
-    → pen_of v y ≡ formatted f (record { point = q; text = t; operand = no_operand })
-format_put f q t u v p y e g h k =
-    (λ i. pen_of (h i) (k i)) ∙ g ∙ ap (λ (z : Text). formatted f (record { point = q; text = z; operand = no_operand })) e
-
 -- The byte at a place is read as such
 pub format_runs : (bytes : List ℕ) (from : ℕ) (f : Effector) (t u : Text) (x y : Tip) (c : Command) (l : Look) (at : ℕ) (out : List ℕ) (n : Next) (out' : List ℕ) (w : Bool)
     → IsFormat f (get_or bytes from 0) → x.operand.count ≡ 0 → at + room_for_step ≤ length out
@@ -65,7 +59,7 @@ pub format_runs : (bytes : List ℕ) (from : ℕ) (f : Effector) (t u : Text) (x
     → (n.moved ≡ false → n.point ≡ x.point)
     → w ≡ (x.behind || n.moved)
     → pen_of u y ≡ formatted f (record { point = n.point; text = caught_up w n.point t; operand = no_operand })
-    → DrawsTo Pdi bytes from t x c l at out (record { count = 1; at = n.at; tip = y; command = n.command }) u out'
+    → DrawsTo Pdi bytes from t x c l at out (record { count = 1; at = n.at; left = y; command = n.command }) u out'
 format_runs bytes from f t u x y c l at out n out' w is fresh room goes still e pen m =
     let b = get_or bytes from 0 in
     let s = caught_up x.behind x.point t in

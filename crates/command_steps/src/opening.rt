@@ -16,7 +16,8 @@ use figures::tracing::put_figure;
 use records::Head;
 use rules::{Command, ORIGIN, Point, RECORD_SIZE, Row};
 
-// The place after the records, the drawing point and whether it was moved, and the command that is open.
+// The place after the records, the drawing point and whether it was moved, and the command that is open. The point stands where it was
+// not moved too.
 #[derive(Clone, Copy)]
 pub struct Next {
     pub at: usize,
@@ -56,6 +57,7 @@ pub fn mark_next(
 }
 
 // A control or an opcode closes the command that the row is of; an opcode opens another, which has the next row.
+#[tactic(auto, using(crate::proofs::OpeningLaws::row_control))]
 pub fn open_next(
     byte: u8,
     next: Row,
@@ -81,11 +83,10 @@ pub fn open_next(
     let at = put_figure(done.figure, ink, pel, out, at);
     let point = done.point;
     let opened = open_at(byte, next, point, ink, pel, out, at);
-    let command = opened.command;
     Next {
         at: opened.at,
         moved: done.moved,
         point,
-        command,
+        command: opened.command,
     }
 }

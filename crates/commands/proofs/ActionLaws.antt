@@ -1,6 +1,6 @@
 -- Records of the drawing point and the opening of a command, carried out.
 use Rattle.std.specs.Prelude.{◌+◌, ◌≡◌, ◌++◌}
-use Rattle.commands.proofs.Prelude.{ℕ, false, List, set, eq-eqb, ne_eqb}
+use Rattle.std.proofs.Common.{ℕ, false, List, set, eq-eqb, ne_eqb}
 use Rattle.rules.specs.declared.Command.{Command}
 use Rattle.rules.specs.declared.Row.{Row}
 use Rattle.rules.specs.declared.Look.{Look}

@@ -1,49 +1,16 @@
 // Closing: a begun operand is completed and applied, then the command finishes by the operand that is due.
-ghost use Rattle.std.specs.Prelude.{◌≡◌, Bool, true, [], ◌+◌, ◌≤◌, length};
-ghost use Rattle.rules.specs.declared.Drawing.{Drawing};
-ghost use Rattle.rules.specs.Text.{close_text};
-ghost use Rattle.rules.specs.Drawing.{row_of, with_mode, with_pen, Draw, finish, new_command, close};
-ghost use Rattle.figures.specs.Carried.{carry_out, drawing_of, carried_of};
-ghost use Rattle.figures.specs.Tracing.{finishes_apart};
+ghost use Rattle.std.specs.Prelude.{◌≡◌, ◌+◌, ◌≤◌, length, Ok};
+ghost use Rattle.rules.specs.Numbers.{record_size};
+ghost use Rattle.rules.specs.Drawing.{row_of, complete, finish, new_command, close};
+ghost use Rattle.figures.specs.Carried.{carry_out, carried_of};
 
-use data_bytes::{apply_begun, resting, role_due};
-use figures::answers::{moved_if, no_record};
-use figures::finishing::finishes_apart;
+use data_bytes::{apply_begun, role_due};
+use figures::answers::move_if;
 use figures::tracing::put_figure;
-use figures::{Drawn, finishing};
+use figures::{TooManyVertices, finishing};
 use records::head_of;
-use rules::{Colour, Command, Due, Look, Mode, ORIGIN, Pen, Point, Role, Row};
+use rules::{Command, Drawing, Due, Mode, NO_OPERAND, ORIGIN, Point, Role, Row};
 use settings::close_text;
-
-// Colour mode 0.
-fn direct(look: Look) -> Look
-    ensures { result ≡ record { domain = look.domain; colour = with_mode Mode.Direct look.colour } }
-{
-    let domain = look.domain;
-    let c = look.colour;
-    let colour = Colour {
-        mode: Mode::Direct,
-        green: c.green,
-        red: c.red,
-        blue: c.blue,
-        foreground: c.foreground,
-        background: c.background,
-    };
-    Look { domain, colour }
-}
-
-// The operand of TEXT that is due, by its role.
-fn text_due(role: Role) -> Due
-    ensures { (filled : Bool) (d : Drawing) → finishes_apart role ≡ true → (role ≡ Role.Foreground → ⊥)
-        → finish role filled d ≡ Draw (with_pen (close_text result d.pen) d) [] }
-{
-    match role {
-        Role::TextFirst => Due::First,
-        Role::TextSecond => Due::Second,
-        Role::TextField => Due::Third,
-        _ => Due::Past,
-    }
-}
 
 // A command just opened at a point; opcode 0 is none.
 pub fn new_command(opcode: u8, point: Point) -> Command
@@ -59,52 +26,61 @@ pub fn new_command(opcode: u8, point: Point) -> Command
     }
 }
 
-// Closes the command that the row is of. An operand that is begun is applied first, the bytes that have not come being zero bits:
-// only it can be refused, before anything is written. Then SELECT COLOUR with no operand sets mode 0, TEXT sets the cursor, and
-// other commands finish by a figure or by none.
-pub fn close(
+// An operand that is begun is applied, the bytes that have not come being zero bits.
+fn complete(
     row: Row,
-    pen: Pen,
-    command: Command,
-    look: Look,
-    map: &mut [u8; 48],
+    drawing: &mut Drawing,
     out: &mut [u8],
     at: usize,
-) -> Drawn
-    requires { (row ≡ row_of command.opcode) × (pen.operand.count ≤ 8) × (look.colour.foreground ≤ 15)
-        × (at + 80 ≤ length out.old) }
-    ensures { carried_of result map.new out.new
-        ≡ carry_out close (drawing_of pen command look map.old) at out.old }
+) -> Result<usize, TooManyVertices>
+    requires { (drawing.old.pen.operand.count ≤ 8) × (drawing.old.look.colour.foreground ≤ 15) × (at + record_size ≤ length out.old) }
+    ensures { carried_of result at drawing.new out.new ≡ carry_out (complete row) drawing.old at out.old }
 {
-    let mut pen = pen;
-    let mut command = command;
-    let mut look = look;
-    let mut at = at;
-    if pen.operand.count != 0 {
-        let done = apply_begun(row, pen, command, look, map, out, at);
-        if done.too_many_vertices {
-            return done;
-        }
-        pen = done.pen;
-        command = done.command;
-        look = done.look;
-        at = done.at;
+    if drawing.pen.operand.count == 0 {
+        return Ok(at);
     }
-    let role = role_due(row, command);
-    if finishes_apart(role) {
-        match role {
-            Role::Foreground => {
-                look = direct(look);
-            }
-            _ => {
-                pen = close_text(text_due(role), pen);
-            }
+    apply_begun(row, drawing, out, at)
+}
+
+// By the operand that is due SELECT COLOUR with none sets mode 0, TEXT sets the cursor, and other commands finish by a figure or
+// by none.
+#[tactic(auto, unfolding(figures::specs::Tracing::finishes_apart))]
+fn finish(role: Role, row: Row, drawing: &mut Drawing, out: &mut [u8], at: usize) -> usize
+    requires { at + record_size ≤ length out.old }
+    ensures { carried_of (Ok result) at drawing.new out.new
+        ≡ carry_out (finish role row.filled) drawing.old at out.old }
+{
+    match role {
+        Role::Foreground => drawing.look.colour.mode = Mode::Direct,
+        Role::TextFirst => drawing.pen = close_text(Due::First, drawing.pen),
+        Role::TextSecond => drawing.pen = close_text(Due::Second, drawing.pen),
+        Role::TextField => drawing.pen = close_text(Due::Third, drawing.pen),
+        Role::TextMore => drawing.pen = close_text(Due::Past, drawing.pen),
+        _ => {
+            let done = finishing::finish(role, row, drawing.pen.point, drawing.command);
+            let ink = head_of(drawing.look, 0, 0, 0, 0);
+            move_if(done.moved, &mut drawing.pen, done.point);
+            return put_figure(done.figure, ink, drawing.look.domain.pel, out, at);
         }
-    } else {
-        let done = finishing::finish(role, row, pen.point, command);
-        let ink = head_of(look, 0, 0, 0, 0);
-        at = put_figure(done.figure, ink, look.domain.pel, out, at);
-        pen = moved_if(done.moved, pen, done.point);
     }
-    no_record(resting(pen), new_command(0, ORIGIN), look, at)
+    at
+}
+
+// Closes the command that the row is of. Only the operand that is begun can be refused, before anything is written.
+pub fn close(
+    row: Row,
+    drawing: &mut Drawing,
+    out: &mut [u8],
+    at: usize,
+) -> Result<usize, TooManyVertices>
+    requires { (row ≡ row_of drawing.old.command.opcode) × (drawing.old.pen.operand.count ≤ 8)
+        × (drawing.old.look.colour.foreground ≤ 15) × (at + 80 ≤ length out.old) }
+    ensures { carried_of result at drawing.new out.new ≡ carry_out close drawing.old at out.old }
+{
+    let at = complete(row, drawing, out, at)?;
+    let role = role_due(row, drawing.command);
+    let at = finish(role, row, drawing, out, at);
+    drawing.pen.operand = NO_OPERAND;
+    drawing.command = new_command(0, ORIGIN);
+    Ok(at)
 }

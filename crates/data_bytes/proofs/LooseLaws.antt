@@ -1,9 +1,6 @@
 -- Data that makes no operand.
-use Rattle.std.specs.Prelude.{◌≡◌, ◌∷◌}
-use Rattle.data_bytes.proofs.Prelude.{ℕ, refl, sym, ◌∙◌, Bool, true, false, List, []}
-use types.Run.{OneOf, miss}
-use denote.Enum.Declared.{tag_of}
-use Rattle.rules.specs.contracts.Role.{the_type as the-role}
+use Rattle.std.specs.Prelude.{◌≡◌}
+use Rattle.std.proofs.Common.{ℕ, refl, sym, ◌∙◌, Bool, true, false, []}
 use Rattle.rules.specs.declared.Drawing.{Drawing}
 use Rattle.rules.specs.declared.Due.{Due}
 use Rattle.rules.specs.declared.Due.TheVariants.{First, Second, Third, Past}
@@ -73,28 +70,25 @@ pub polygon_due : (p : Pattern) (n : Due) (x : Role) → x ≡ role_of p n → x
 polygon_due p n x e h = codes_due p n (rw (← e, h))
 
 -- Other data is dropped
-abbrev dropped : List ℕ
-dropped = 0 ∷ 1 ∷ 2 ∷ 3 ∷ 4 ∷ 5 ∷ 6 ∷ 7 ∷ 10 ∷ 11 ∷ 12 ∷ 13 ∷ 14 ∷ 15 ∷ 16 ∷ 17 ∷ 18 ∷ 19 ∷ []
-
-pub loose_dropped : (x : Role) (filled : Bool) (b : ℕ) (d : Drawing) → OneOf dropped (tag_of the-role x) → loose_byte x filled b d ≡ Draw d []
+pub loose_dropped : (x : Role) (filled : Bool) (b : ℕ) (d : Drawing) → (x ≡ LineCodes → ⊥) → (x ≡ PolygonCodes → ⊥) → loose_byte x filled b d ≡ Draw d []
 unfolding loose_byte
-loose_dropped MoveTo filled b d k = refl
-loose_dropped DrawTo filled b d k = refl
-loose_dropped DrawBy filled b d k = refl
-loose_dropped Middle filled b d k = refl
-loose_dropped ArcEnd filled b d k = refl
-loose_dropped Start filled b d k = refl
-loose_dropped Edge filled b d k = refl
-loose_dropped StepSize filled b d k = refl
-loose_dropped LineCodes filled b d k = absurd (miss dropped 8 tt k)
-loose_dropped PolygonCodes filled b d k = absurd (miss dropped 9 tt k)
-loose_dropped Lengths filled b d k = refl
-loose_dropped Pel filled b d k = refl
-loose_dropped TextFirst filled b d k = refl
-loose_dropped TextSecond filled b d k = refl
-loose_dropped TextField filled b d k = refl
-loose_dropped TextMore filled b d k = refl
-loose_dropped Foreground filled b d k = refl
-loose_dropped Background filled b d k = refl
-loose_dropped Shade filled b d k = refl
-loose_dropped Dropped filled b d k = refl
+loose_dropped MoveTo filled b d h k = refl
+loose_dropped DrawTo filled b d h k = refl
+loose_dropped DrawBy filled b d h k = refl
+loose_dropped Middle filled b d h k = refl
+loose_dropped ArcEnd filled b d h k = refl
+loose_dropped Start filled b d h k = refl
+loose_dropped Edge filled b d h k = refl
+loose_dropped StepSize filled b d h k = refl
+loose_dropped LineCodes filled b d h k = absurd (h refl)
+loose_dropped PolygonCodes filled b d h k = absurd (k refl)
+loose_dropped Lengths filled b d h k = refl
+loose_dropped Pel filled b d h k = refl
+loose_dropped TextFirst filled b d h k = refl
+loose_dropped TextSecond filled b d h k = refl
+loose_dropped TextField filled b d h k = refl
+loose_dropped TextMore filled b d h k = refl
+loose_dropped Foreground filled b d h k = refl
+loose_dropped Background filled b d h k = refl
+loose_dropped Shade filled b d h k = refl
+loose_dropped Dropped filled b d h k = refl

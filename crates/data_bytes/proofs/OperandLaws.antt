@@ -1,14 +1,14 @@
 -- Data bytes and the operands they make, carried out.
-use Rattle.std.specs.Prelude.{◌≤◌, ◌<◌, ◌≡◌}
-use Rattle.data_bytes.proofs.Prelude.{ℕ, suc, sym, ap, ◌∙◌, true, false, List, [], length, ltb, eq-eqb, ne_eqb, lt-ltb, le-ltb}
+use Rattle.std.specs.Prelude.{◌≤◌, ◌<◌, ◌≡◌, Result, Ok, Err}
+use Rattle.std.proofs.Common.{ℕ, suc, sym, ap, ◌∙◌, true, false, List, [], length, eq-eqb, ne_eqb, lt-ltb, le-ltb}
 use Rattle.rules.specs.declared.Drawing.{Drawing}
-use Rattle.rules.specs.declared.Pen.{Pen}
 use Rattle.rules.specs.declared.Row.{Row}
 use Rattle.rules.specs.declared.Role.{Role}
 use Rattle.rules.specs.Operands.{begun}
-use Rattle.rules.specs.Drawing.{length_of, with_pen, Outcome, NotDrawn, Draw, apply, next_operand, role_due, apply_begun, with_byte, loose_byte, take_byte, data_byte}
-use Rattle.rules.proofs.Bools.{false_true, pick_yes, pick_no}
-use Rattle.figures.specs.Carried.{Carried, carry, drawing_of}
+use Rattle.rules.specs.Drawing.{length_of, with_operand, Outcome, NotDrawn, Draw, apply, next_operand, role_due, apply_begun, with_byte, loose_byte, take_byte, data_byte}
+use Rattle.rules.proofs.Bools.{false_true, true_false, pick_yes, pick_no}
+use Rattle.figures.specs.declared.TooManyVertices.{TooManyVertices}
+use Rattle.figures.specs.Carried.{carried_of, Carried, carry}
 use Rattle.figures.proofs.Carrying.{then_refused, then_drawn}
 
 -- The operand that is begun, applied with the answer x
@@ -26,59 +26,48 @@ module _ (r : Row) (d : Drawing) (at : ℕ) (l : List ℕ) (n : Role) (x : Carri
   unfolding apply_begun applied
   begun_drawn y b h f = then_drawn applied _ d at l x y (rw e at a) h b tt f
 
--- An outcome carried out from the state with the pen p, its answer x
-module _ (p : Pen) (d : Drawing) (at : ℕ) (l : List ℕ) (x : Carried) where
-  -- A refusal leaves the pen
-  refused_from : (o : Outcome) → x ≡ carry o (with_pen p d) at l → x.refused ≡ true
-      → record { refused = true; drawing = drawing_of d.pen d.command d.look x.drawing.map; at = at; output = x.output } ≡ carry o d at l
-  unfolding carry
-  refused_from (NotDrawn r) e h = rw (ap (λ (y : Carried). y.drawing.map) e, ap (λ (y : Carried). y.output) e)
-  refused_from (Draw f rs) e h = false_true (sym (ap (λ (y : Carried). y.refused) e) ∙ h)
-
-  -- What is drawn does not depend on it
-  drawn_from : (o : Outcome) → x ≡ carry o (with_pen p d) at l → x.refused ≡ false → x ≡ carry o d at l
-  unfolding carry
-  drawn_from (NotDrawn r) e h = false_true (sym h ∙ ap (λ (y : Carried). y.refused) e)
-  drawn_from (Draw f rs) e h = e
-
 -- A byte for an operand of n bytes
-module _ (r : Row) (b : ℕ) (d : Drawing) (at : ℕ) (l : List ℕ) (x : Role) (n : ℕ) (e : x ≡ role_due r d) (f : n ≡ length_of x d.look.domain) where
+module _ (r : Row) (b : ℕ) (d : Drawing) (x : Role) (n : ℕ) (e : x ≡ role_due r d) (f : n ≡ length_of x d.look.domain) where
   data_due : data_byte r b d ≡ take_byte n r b d
   unfolding data_byte
   data_due = ap (λ (k : ℕ). take_byte k r b d) (ap (λ (y : Role). length_of y d.look.domain) (sym e) ∙ sym f)
 
   -- It makes none
-  pub data_loose : n ≡ 0 → carry (loose_byte x r.filled b d) d at l ≡ carry (data_byte r b d) d at l
+  pub data_loose : n ≡ 0 → data_byte r b d ≡ loose_byte x r.filled b d
   unfolding take_byte
-  data_loose h =
-      ap (λ (y : Role). carry (loose_byte y r.filled b d) d at l) e
-      ∙ ap (λ (o : Outcome). carry o d at l) (sym (data_due ∙ pick_yes _ _ (eq-eqb n 0 h)))
+  data_loose h = data_due ∙ pick_yes _ _ (eq-eqb n 0 h) ∙ ap (λ (y : Role). loose_byte y r.filled b d) (sym e)
 
-  -- Joined to the operand of the pen p
-  module _ (p : Pen) (j : p ≡ (with_byte b d).pen) (h : n ≡ 0 → ⊥) where
-    count_joined : p.operand.count ≡ suc d.pen.operand.count
-    count_joined = ap (λ (q : Pen). q.operand.count) j
+  -- It joins, and is not the last
+  pub data_joined : (n ≡ 0 → ⊥) → suc d.pen.operand.count < n → data_byte r b d ≡ Draw (with_byte b d) []
+  unfolding take_byte
+  data_joined h g = data_due ∙ pick_no _ _ (ne_eqb n 0 h) ∙ pick_yes _ _ (lt-ltb _ n g)
 
-    -- It is not the last
-    pub data_joined : p.operand.count < n → carry (Draw (with_pen p d) []) (with_pen p d) at l ≡ carry (data_byte r b d) d at l
-    unfolding carry take_byte
-    data_joined g =
-        let t : ltb (suc d.pen.operand.count) n ≡ true = lt-ltb _ n (rw count_joined at g) in
-        rw j (ap (λ (o : Outcome). carry o d at l) (sym (data_due ∙ (pick_no _ _ (ne_eqb n 0 h) ∙ pick_yes _ _ t))))
+  -- It is the last
+  pub data_last : (n ≡ 0 → ⊥) → n ≤ suc d.pen.operand.count → data_byte r b d ≡ apply_begun r (with_byte b d)
+  unfolding take_byte
+  data_last h g = data_due ∙ pick_no _ _ (ne_eqb n 0 h) ∙ pick_no _ _ (le-ltb _ n g)
 
-    -- It is the last
-    data_last : n ≤ p.operand.count → data_byte r b d ≡ apply_begun r (with_pen p d)
-    unfolding take_byte
-    data_last g =
-        let t : ltb (suc d.pen.operand.count) n ≡ false = le-ltb _ n (rw count_joined at g) in
-        rw j (data_due ∙ (pick_no _ _ (ne_eqb n 0 h) ∙ pick_no _ _ t))
+-- The last byte is applied, joined: it left the state c, the output m and the answer x
+module _ (r : Row) (b : ℕ) (d c : Drawing) (at : ℕ) (l m : List ℕ) (x : Result ℕ TooManyVertices) where
+  abbrev joined : Drawing
+  joined = with_byte b d
 
-    pub last_refused : (y : Carried) → n ≤ p.operand.count → y ≡ carry (apply_begun r (with_pen p d)) (with_pen p d) at l → y.refused ≡ true
-        → record { refused = true; drawing = drawing_of d.pen d.command d.look y.drawing.map; at = at; output = y.output } ≡ carry (data_byte r b d) d at l
-    last_refused y g a z =
-        refused_from p d at l y (apply_begun r (with_pen p d)) a z ∙ ap (λ (o : Outcome). carry o d at l) (sym (data_last g))
+  -- A refusal leaves the operand without the byte
+  pub last_refused : (e : TooManyVertices) → x ≡ Err e → carried_of (Err e) at c m ≡ carry (apply_begun r joined) joined at l
+      → data_byte r b d ≡ apply_begun r joined → carried_of x at (with_operand d.pen.operand c) m ≡ carry (data_byte r b d) d at l
+  unfolding carry
+  last_refused e i h k = rw i (by (apply_begun r joined) h ∙ ap (λ (y : Outcome). carry y d at l) (sym k))
+    where
+      by : (o : Outcome) → carried_of (Err e) at c m ≡ carry o joined at l → carried_of (Err e) at (with_operand d.pen.operand c) m ≡ carry o d at l
+      by (NotDrawn q) h = ap (λ (y : Carried). record { refused = true; drawing = with_operand d.pen.operand y.drawing; at = y.at; output = y.output }) h
+      by (Draw f rs) h = true_false (ap (λ (y : Carried). y.refused) h)
 
-    pub last_drawn : (y : Carried) → n ≤ p.operand.count → y ≡ carry (apply_begun r (with_pen p d)) (with_pen p d) at l → y.refused ≡ false
-        → y ≡ carry (data_byte r b d) d at l
-    last_drawn y g a z =
-        drawn_from p d at l y (apply_begun r (with_pen p d)) a z ∙ ap (λ (o : Outcome). carry o d at l) (sym (data_last g))
+  -- What is drawn does not depend on the state before
+  pub last_drawn : (n : ℕ) → x ≡ Ok n → carried_of (Ok n) at c m ≡ carry (apply_begun r joined) joined at l
+      → data_byte r b d ≡ apply_begun r joined → carried_of x at c m ≡ carry (data_byte r b d) d at l
+  unfolding carry
+  last_drawn n i h k = rw i (by (apply_begun r joined) h ∙ ap (λ (y : Outcome). carry y d at l) (sym k))
+    where
+      by : (o : Outcome) → carried_of (Ok n) at c m ≡ carry o joined at l → carried_of (Ok n) at c m ≡ carry o d at l
+      by (NotDrawn q) h = false_true (ap (λ (y : Carried). y.refused) h)
+      by (Draw f rs) h = h

@@ -1,5 +1,5 @@
 -- Laws of ESC and another byte: the test made first tells how both end.
-use Rattle.std.specs.Prelude.{◌≡◌, ◌<◌, ◌≤◌}
+use Rattle.std.specs.Prelude.{◌≡◌, ◌<◌, ◌≤◌, Result, Ok, Err, OnErr}
 use Rattle.definitions.specs.Prelude.{refl, sym, ap, ◌∙◌, Bool, true, false, List, ℕ, suc, arith, eqb-true, eqb-false, ltb-true, ltb-false, ne_eqb, eqb, ltb}
 use Rattle.rules.specs.declared.Definition.{Definition}
 use Rattle.rules.specs.declared.Refusal.{Refusal}
@@ -8,12 +8,8 @@ use Rattle.rules.specs.Numbers.{esc}
 use Rattle.rules.specs.Store.{next_of, set_next, count_of, set_count, good_count, set_body_byte, Filling, Storing, NotStored, Stored, on_store, take_cell, link_cell, store_in_new, store_in_last, store_byte, store_next, store_escape_and}
 use Rattle.rules.proofs.Bools.{by_test, pick_by}
 use Rattle.store.specs.Lent.{Sized}
-use Rattle.definitions.specs.Storing.{filling_of, storing_of, KeptIfRefused}
+use Rattle.definitions.specs.Storing.{filling_of, storing_of}
 use Rattle.definitions.specs.Room.{free_cell, room_for_two}
-use Rattle.definitions.specs.declared.appending.StoreAnswer.{StoreAnswer}
-use Rattle.definitions.specs.declared.appending.StoreAnswer.TheVariants.{Done, Refused}
-use Rattle.definitions.specs.declared.escapes.Room.{Room}
-use Rattle.definitions.specs.declared.escapes.Room.TheVariants.{Enough, Refused as Short}
 use Rattle.store.proofs.CellLaws.{good_most, good_between, length-set_next, length-set_body_byte, count-set_count, count-set_next, count-set_body_byte, next-set_count, next-set_body_byte}
 use Rattle.definitions.proofs.StoringLaws.{held, front, byte_first, byte_bad, byte_in, byte_full, new_none}
 
@@ -22,14 +18,14 @@ abbrev Accepted : Storing → Type 0
 Accepted (NotStored r) = ⊥
 Accepted (Stored f) = Unit
 
-accepted_keeps : (a : StoreAnswer) (firsts st : List ℕ) → Accepted (storing_of a firsts st) → (lent left : List ℕ) → KeptIfRefused a lent left
-accepted_keeps (Done d) firsts st h lent left = tt
-accepted_keeps (Refused r) firsts st h lent left = absurd h
+accepted_keeps : (a : Result Definition Refusal) (firsts st : List ℕ) → Accepted (storing_of a firsts st) → (P : Type 0) → OnErr a P
+accepted_keeps (Ok d) firsts st h P = tt
+accepted_keeps (Err r) firsts st h P = absurd h
 
 -- What the test says of both bytes
-abbrev Ending : Filling → ℕ → Room → Type 0
-Ending f b Enough = Accepted (store_escape_and f b)
-Ending f b (Short r) = store_escape_and f b ≡ NotStored r
+abbrev Ending : Filling → ℕ → Result (Unit {0}) Refusal → Type 0
+Ending f b (Ok u) = Accepted (store_escape_and f b)
+Ending f b (Err r) = store_escape_and f b ≡ NotStored r
 
 -- The filling with the byte in the last cell, of count n, and in the new cell n
 abbrev in_last : ℕ → Filling → ℕ → Filling
@@ -150,19 +146,19 @@ module _ (f : Filling) (b : ℕ) (sized : Sized f.store) (low : f.definition.las
       (λ bad. refused_first f b OutOfRange (byte_bad f esc nz bad)))
 
   -- From what the calls hand back
-  pub two_refused : (r : Refusal) → Short r ≡ room_for_two f.store f.definition.last → NotStored r ≡ store_escape_and f b
+  pub two_refused : (r : Refusal) → Err r ≡ room_for_two f.store f.definition.last → NotStored r ≡ store_escape_and f b
   two_refused r e = sym (rw (← e) at two)
 
-  module _ (room : Enough ≡ room_for_two f.store f.definition.last) (a : StoreAnswer) (firsts st : List ℕ) (e : storing_of a firsts st ≡ store_byte f esc) where
+  module _ (room : Ok tt ≡ room_for_two f.store f.definition.last) (a : Result Definition Refusal) (firsts st : List ℕ) (e : storing_of a firsts st ≡ store_byte f esc) where
     accepted : Accepted (store_escape_and f b)
     accepted = rw (← room) at two
 
-    pub first_stored : (r : Refusal) → a ≡ Refused r → ⊥
+    pub first_stored : (r : Refusal) → a ≡ Err r → ⊥
     first_stored r refused = rw (refused_first f b r (sym (rw refused at e))) at accepted
 
-    pub both_stored : (d : Definition) (a' : StoreAnswer) (firsts' st' : List ℕ) → a ≡ Done d → storing_of a' firsts' st' ≡ store_byte (filling_of d firsts st) b
-        → (storing_of a' firsts' st' ≡ store_escape_and f b) × ((KeptIfRefused a' f.firsts firsts') × (KeptIfRefused a' f.store st'))
+    pub both_stored : (d : Definition) (a' : Result Definition Refusal) (firsts' st' : List ℕ) → a ≡ Ok d → storing_of a' firsts' st' ≡ store_byte (filling_of d firsts st) b
+        → (storing_of a' firsts' st' ≡ store_escape_and f b) × OnErr a' ((firsts' ≡ f.firsts) × (st' ≡ f.store))
     both_stored d a' firsts' st' done e' =
         let all = e' ∙ sym (second_decides f b (filling_of d firsts st) (sym (rw done at e))) in
         let kept = rw (← all) at accepted in
-        (all, (accepted_keeps a' firsts' st' kept f.firsts firsts', accepted_keeps a' firsts' st' kept f.store st'))
+        (all, accepted_keeps a' firsts' st' kept ((firsts' ≡ f.firsts) × (st' ≡ f.store)))

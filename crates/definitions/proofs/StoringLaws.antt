@@ -1,14 +1,12 @@
 -- Laws of storing a byte: the rule by its cases, and from what the calls hand back.
-use Rattle.std.specs.Prelude.{◌≡◌, ◌+◌, ◌<◌, ◌≤◌}
+use Rattle.std.specs.Prelude.{◌≡◌, ◌+◌, ◌<◌, ◌≤◌, Result, Ok}
 use Rattle.definitions.specs.Prelude.{sym, ap, ◌∙◌, true, false, List, ℕ, add-one, eq-eqb, ne_eqb, lt-ltb, le-ltb, eqb}
 use Rattle.rules.specs.declared.Definition.{Definition}
 use Rattle.rules.specs.declared.Refusal.{Refusal}
 use Rattle.rules.specs.declared.Refusal.TheVariants.{StoreFull, OutOfRange}
 use Rattle.rules.specs.Store.{next_of, set_next, count_of, set_count, good_count, set_body_byte, set_first, Filling, NotStored, Stored, take_cell, link_cell, store_in_new, store_in_last, store_byte}
 use Rattle.rules.proofs.CodingRanges.{StoringKeeps, store_keeps}
-use Rattle.definitions.specs.Storing.{filling_of, storing_of, KeptIfRefused}
-use Rattle.definitions.specs.declared.appending.StoreAnswer.{StoreAnswer}
-use Rattle.definitions.specs.declared.appending.StoreAnswer.TheVariants.{Done, Refused}
+use Rattle.definitions.specs.Storing.{filling_of, storing_of}
 
 -- The count of the last cell, and the front of the free chain
 abbrev pub held : Filling → ℕ
@@ -71,17 +69,14 @@ module _ (d : Definition) (firsts st : List ℕ) where
   in_stored n b st₁ st₂ e₁ e₂ = simp (e₂, e₁, add-one)
 
 -- From an answer: where the byte is stored the name of the definition stays, where it is refused all stays
-module _ (f : Filling) (b : ℕ) (a : StoreAnswer) (firsts st : List ℕ) (d : Definition) (e : storing_of a firsts st ≡ store_byte f b) (done : a ≡ Done d) where
+module _ (f : Filling) (b : ℕ) (a : Result Definition Refusal) (firsts st : List ℕ) (d : Definition) (e : storing_of a firsts st ≡ store_byte f b) (done : a ≡ Ok d) where
   pub same_name : d.name ≡ f.definition.name
   same_name =
-      let kept : StoringKeeps f (storing_of (Done d) firsts st) = rw (← e, done) at (store_keeps f b) in
+      let kept : StoringKeeps f (storing_of (Ok d) firsts st) = rw (← e, done) at (store_keeps f b) in
       kept.1
 
   pub byte_stored : store_byte f b ≡ Stored (filling_of (record { name = f.definition.name; last = d.last }) firsts st)
   byte_stored =
       sym e
-      ∙ ap (λ (x : StoreAnswer). storing_of x firsts st) done
+      ∙ ap (λ (x : Result Definition Refusal). storing_of x firsts st) done
       ∙ ap (λ (n : ℕ). Stored (filling_of (record { name = n; last = d.last }) firsts st)) same_name
-
-pub refused_keeps : (a : StoreAnswer) (r : Refusal) (lent left : List ℕ) → a ≡ Refused r → KeptIfRefused a lent left → left ≡ lent
-refused_keeps a r lent left e k = rw e at k

@@ -1,18 +1,12 @@
 // The open definition: a byte is stored at the end of its chain.
-ghost use Rattle.std.specs.Prelude.{eqb, ◌≡◌};
+ghost use Rattle.std.specs.Prelude.{eqb, ◌≡◌, OnErr};
 ghost use Rattle.rules.specs.Store.{next_of, take_cell, link_cell, store_in_new, store_byte};
 ghost use Rattle.store.specs.Lent.{Sized, IsName};
-ghost use Rattle.definitions.specs.Storing.{filling_of, storing_of, KeptIfRefused};
+ghost use Rattle.definitions.specs.Storing.{filling_of, storing_of};
 
 use rules::{Definition, MOST_BYTES, Refusal};
 use store::cells::{count_of, good_count, next_of, set_body_byte, set_count, set_next};
 use store::names::set_first;
-
-#[derive(Clone, Copy)]
-pub enum StoreAnswer {
-    Done(Definition),
-    Refused(Refusal),
-}
 
 // Takes the cell, the front of the free chain, for one byte.
 fn take_cell(store: &mut [u8], cell: u8)
@@ -36,16 +30,15 @@ fn link_cell(
     ensures { filling_of result firsts.new store.new
         ≡ link_cell (eqb definition.last 0) cell (filling_of definition firsts.old store.old) }
 {
-    let longer = Definition {
-        name: definition.name,
-        last: cell,
-    };
     if definition.last == 0 {
         set_first(firsts, definition.name, cell);
-        return longer;
+    } else {
+        set_next(store, definition.last, cell);
     }
-    set_next(store, definition.last, cell);
-    longer
+    Definition {
+        last: cell,
+        ..definition
+    }
 }
 
 // Stores the byte as the first of a new cell.
@@ -54,22 +47,21 @@ fn store_in_new(
     firsts: &mut [u8; 96],
     definition: Definition,
     byte: u8,
-) -> StoreAnswer
+) -> Result<Definition, Refusal>
     requires { (Sized store.old) × (IsName definition.name) }
     ensures stored { storing_of result firsts.new store.new
         ≡ store_in_new (next_of store.old 0) (filling_of definition firsts.old store.old)
         byte }
-    ensures refused { (KeptIfRefused result firsts.old firsts.new)
-        × (KeptIfRefused result store.old store.new) }
+    ensures refused { OnErr result ((firsts.new ≡ firsts.old) × (store.new ≡ store.old)) }
 {
     let cell = next_of(store, 0);
     if cell == 0 {
-        return StoreAnswer::Refused(Refusal::StoreFull);
+        return Err(Refusal::StoreFull);
     }
     take_cell(store, cell);
     let longer = link_cell(store, firsts, definition, cell);
     set_body_byte(store, cell, 0, byte);
-    StoreAnswer::Done(longer)
+    Ok(longer)
 }
 
 // Stores a byte of the definition.
@@ -78,24 +70,23 @@ pub fn store_byte(
     firsts: &mut [u8; 96],
     definition: Definition,
     byte: u8,
-) -> StoreAnswer
+) -> Result<Definition, Refusal>
     requires { (Sized store.old) × (IsName definition.name) }
     ensures stored { storing_of result firsts.new store.new
         ≡ store_byte (filling_of definition firsts.old store.old) byte }
-    ensures refused { (KeptIfRefused result firsts.old firsts.new)
-        × (KeptIfRefused result store.old store.new) }
+    ensures refused { OnErr result ((firsts.new ≡ firsts.old) × (store.new ≡ store.old)) }
 {
     if definition.last == 0 {
         return store_in_new(store, firsts, definition, byte);
     }
     let count = count_of(store, definition.last);
     if !good_count(count) {
-        return StoreAnswer::Refused(Refusal::OutOfRange);
+        return Err(Refusal::OutOfRange);
     }
     if count < MOST_BYTES {
         set_body_byte(store, definition.last, count, byte);
         set_count(store, definition.last, count + 1);
-        return StoreAnswer::Done(definition);
+        return Ok(definition);
     }
     store_in_new(store, firsts, definition, byte)
 }

@@ -1,33 +1,26 @@
 // ESC and another byte of the open definition: both are stored, or neither.
-ghost use Rattle.std.specs.Prelude.{◌≡◌};
+ghost use Rattle.std.specs.Prelude.{◌≡◌, OnErr};
 ghost use Rattle.rules.specs.Store.{store_escape_and};
 ghost use Rattle.store.specs.Lent.{Sized, IsName};
-ghost use Rattle.definitions.specs.Storing.{filling_of, storing_of, KeptIfRefused};
+ghost use Rattle.definitions.specs.Storing.{filling_of, storing_of};
 ghost use Rattle.definitions.specs.Room.{free_cell, room_for_two};
 
-use crate::appending::{StoreAnswer, store_byte};
+use crate::appending::store_byte;
 use rules::{Definition, ESC, MOST_BYTES, Refusal};
 use store::cells::{count_of, good_count, next_of};
 
-// Whether bytes can be stored, tested before the first is.
-#[derive(Clone, Copy)]
-enum Room {
-    Enough,
-    Refused(Refusal),
-}
-
-fn free_cell(store: &[u8]) -> Room
+fn free_cell(store: &[u8]) -> Result<(), Refusal>
     requires { Sized store.now }
     ensures { result ≡ free_cell store.now }
 {
     if next_of(store, 0) == 0 {
-        return Room::Refused(Refusal::StoreFull);
+        return Err(Refusal::StoreFull);
     }
-    Room::Enough
+    Ok(())
 }
 
-// One new cell is enough for both bytes, or for the second.
-fn room_for_two(store: &[u8], last: u8) -> Room
+// Whether both bytes can be stored, tested before the first is. One new cell is enough for both, or for the second.
+fn room_for_two(store: &[u8], last: u8) -> Result<(), Refusal>
     requires { Sized store.now }
     ensures { result ≡ room_for_two store.now last }
 {
@@ -36,10 +29,10 @@ fn room_for_two(store: &[u8], last: u8) -> Room
     }
     let count = count_of(store, last);
     if !good_count(count) {
-        return Room::Refused(Refusal::OutOfRange);
+        return Err(Refusal::OutOfRange);
     }
     if count < MOST_BYTES - 1 {
-        return Room::Enough;
+        return Ok(());
     }
     free_cell(store)
 }
@@ -49,18 +42,13 @@ pub fn store_escape_and(
     firsts: &mut [u8; 96],
     definition: Definition,
     byte: u8,
-) -> StoreAnswer
+) -> Result<Definition, Refusal>
     requires { (Sized store.old) × (IsName definition.name) }
     ensures stored { storing_of result firsts.new store.new
         ≡ store_escape_and (filling_of definition firsts.old store.old) byte }
-    ensures refused { (KeptIfRefused result firsts.old firsts.new)
-        × (KeptIfRefused result store.old store.new) }
+    ensures refused { OnErr result ((firsts.new ≡ firsts.old) × (store.new ≡ store.old)) }
 {
-    match room_for_two(store, definition.last) {
-        Room::Refused(refusal) => StoreAnswer::Refused(refusal),
-        Room::Enough => match store_byte(store, firsts, definition, ESC) {
-            StoreAnswer::Refused(refusal) => StoreAnswer::Refused(refusal),
-            StoreAnswer::Done(longer) => store_byte(store, firsts, longer, byte),
-        },
-    }
+    room_for_two(store, definition.last)?;
+    let longer = store_byte(store, firsts, definition, ESC)?;
+    store_byte(store, firsts, longer, byte)
 }

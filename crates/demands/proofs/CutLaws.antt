@@ -1,6 +1,6 @@
 -- One feed call more after a list of them, and what the list then comes to
 use Rattle.std.specs.Prelude.{◌+◌, ◌-◌, ◌≤◌, ◌<◌, ◌≡◌, ◌∷◌, ◌++◌}
-use Rattle.demands.specs.Prelude.{ℕ, zero, suc, min, add-zero, zero-min, min-zero, suc-min-suc, add-one, arith, refl, sym, ap, ap₂, ◌∙◌, subst, List, [], append_assoc, length, get_or, take, drop, length-append, length-drop, length-take, take-append-drop, drop_of_length-le, take-append_seam, drop-append_seam, drop-append-le, drop-append-add, drop-drop, drop-cons, get_or-drop, take-add, length-take-le}
+use Rattle.demands.specs.Prelude.{ℕ, zero, suc, min, max, add-zero, zero-min, min-zero, suc-min-suc, add-one, arith, refl, sym, ap, ap₂, ◌∙◌, subst, List, [], append_assoc, length, get_or, take, drop, length-append, length-drop, length-take, take-append-drop, drop_of_length-le, take-append_seam, drop-append_seam, drop-append-le, drop-append-add, drop-drop, drop-cons, get_or-drop, take-add, length-take-le}
 use Rattle.rules.specs.declared.Answer.TheVariants.{Done, Full}
 use Rattle.rules.specs.Step.{State, remove_spent, NothingLeft, seek, Some, state_lent}
 use Rattle.rules.specs.Reading.{Reading, Room, Steps, rests, read_to, undivided}
@@ -12,7 +12,7 @@ use Rattle.rules.specs.declared.Fed.{Fed}
 use Rattle.rules.specs.Promises.{handed_of}
 use Rattle.rules.specs.Promises.{Feeds}
 use borrow.Rule.Slice.PartMut.{put_mid, Post-is}
-use Rattle.demands.specs.Cuts.{total, lent_of, fed_more, fed_all, fed_cuts, Undivided}
+use Rattle.demands.specs.Cuts.{total, lent_of, fed_more, fed_all, some_of, fed_cuts, Undivided}
 
 -- Parts of lists
 
@@ -90,7 +90,6 @@ record Within (lent edge : ℕ) (b h : Handed) : Type 0 where
   pub read : h.consumed ≤ lent
   pub written : h.written ≤ edge
   pub sized : length h.output ≡ length b.output
-  pub stored : length h.state.store ≡ length b.state.store
 
 fed_within : (h : Handed) (page : List ℕ) (lent edge : ℕ) → h.consumed ≤ lent → h.written ≤ edge → edge ≤ length h.output
     → Within lent edge h (fed_more h page lent edge)
@@ -113,7 +112,6 @@ fed_within h page lent edge m n g =
       read = omega arith;
       written = omega arith;
       sized = simp length-append (omega arith);
-      stored = k.stored;
     }
 
 -- Of feed's promise, lent what is unread of a page's first bytes and a part of the output
@@ -296,73 +294,58 @@ fed_next h page lent ns rooms i k =
     ∙ ap₂ (λ (m : ℕ) (l : List ℕ). fed_all (fed_more h page next (min (h.written + m) (length h.output))) page next (drop (i + 1) ns) l)
     (get_or-drop i rooms 0 0 ∙ ap (λ (j : ℕ). get_or rooms j 0) (add-zero i)) (drop-drop 1 i rooms)
 
-fed_first : (w : State) (page lengths rooms out : List ℕ)
-    → fed_all
-    (fed_more (handed (rests Done w) out) page (min (0 + get_or lengths 0 0) (length page)) (min (0 + get_or rooms 0 0) (length out)))
-    page (min (0 + get_or lengths 0 0) (length page)) (drop 1 lengths) (drop 1 rooms)
-    ≡ fed_cuts w page lengths rooms out
-unfolding fed_cuts fed_all
-fed_first w page [] rooms out = refl
-fed_first w page (n ∷ ns) rooms out = refl
-
--- From where it begins, lent₀ bytes lent and the first call come to b, to now: what is still to be made comes to the same
-pub record Going (page lengths rooms : List ℕ) (lent₀ : ℕ) (b : Handed) (i lent : ℕ) (h : Handed) : Type 0 where
+-- The calls before i were lent the page's first lent bytes and came to h: those still to be made bring it to what all come to
+pub record Going (w : State) (page lengths rooms out : List ℕ) (i lent : ℕ) (h : Handed) : Type 0 where
   pub bound : lent ≤ length page
   pub read : h.consumed ≤ lent
   pub written : h.written ≤ length h.output
-  pub sized : length h.output ≡ length b.output
-  pub stored : length h.state.store ≡ length b.state.store
-  pub made : fed_all h page lent (drop i lengths) (drop i rooms) ≡ fed_all b page lent₀ (drop 1 lengths) (drop 1 rooms)
+  pub made : fed_all h page lent (drop i (some_of lengths)) (drop i rooms) ≡ fed_cuts w page lengths rooms out
 
-module _ (page lengths rooms : List ℕ) where
-  pub going_first : (w : State) (out : List ℕ) (n lent m edge : ℕ) (h : Handed) → lent ≡ min (0 + n) (length page) → edge ≡ min (0 + m) (length out)
-      → h ≡ fed_more (handed (rests Done w) out) page lent edge → Going page lengths rooms lent h 1 lent h
-  going_first w out n lent m edge h q r e =
-      let k = subst (Within lent edge (handed (rests Done w) out)) (sym e) (fed_within (handed (rests Done w) out) page lent edge (omega arith) (omega arith) (omega arith)) in
-      record {
-        bound = omega arith;
-        read = k.read;
-        written = omega arith;
-        sized = refl;
-        stored = refl;
-        made = refl;
-      }
+-- At least one call is made, and one past the last length is lent nothing
+some_length : (lengths : List ℕ) → length (some_of lengths) ≡ max (length lengths) 1
+some_length [] = refl
+some_length (n ∷ ns) = omega arith
 
-  pub going_more : (lent₀ : ℕ) (b : Handed) (i lent : ℕ) (h : Handed) (n next m edge : ℕ) (k : Handed)
-      → Going page lengths rooms lent₀ b i lent h → i < length lengths → n ≡ get_or lengths i 0 → next ≡ min (lent + n) (length page)
-      → m ≡ get_or rooms i 0 → edge ≡ min (h.written + m) (length h.output) → k ≡ fed_more h page next edge
-      → Going page lengths rooms lent₀ b (i + 1) next k
-  going_more lent₀ b i lent h n next m edge k g t p q s r e =
+some_get : (lengths : List ℕ) (i : ℕ) → get_or (some_of lengths) i 0 ≡ get_or lengths i 0
+some_get [] zero = refl
+some_get [] (suc i) = refl
+some_get (n ∷ ns) i = refl
+
+module _ (w : State) (page lengths rooms out : List ℕ) where
+  pub going_first : Going w page lengths rooms out 0 0 (handed (rests Done w) out)
+  unfolding fed_cuts
+  going_first = record { bound = omega arith; read = omega arith; written = omega arith; made = refl }
+
+  pub going_more : (i lent : ℕ) (h : Handed) (next edge : ℕ) (k : Handed)
+      → Going w page lengths rooms out i lent h → i < max (length lengths) 1
+      → next ≡ min (lent + get_or lengths i 0) (length page) → edge ≡ min (h.written + get_or rooms i 0) (length h.output)
+      → k ≡ fed_more h page next edge → Going w page lengths rooms out (i + 1) next k
+  going_more i lent h next edge k g t q r e =
       let bound = g.bound in
       let read = g.read in
       let written = g.written in
-      let sized = g.sized in
       let x = subst (Within next edge h) (sym e) (fed_within h page next edge (omega arith) (omega arith) (omega arith)) in
+      let y = x.written in
+      let z = x.sized in
+      let s = some_length lengths in
       record {
         bound = omega arith;
         read = x.read;
         written = omega arith;
-        sized = omega arith;
-        stored = x.stored ∙ g.stored;
         made =
-            ap (λ (y : Handed). fed_all y page next (drop (i + 1) lengths) (drop (i + 1) rooms)) e
-            ∙ ap₂ (λ (u v : ℕ). fed_all (fed_more h page u v) page u (drop (i + 1) lengths) (drop (i + 1) rooms))
-            (q ∙ ap (λ (j : ℕ). min (lent + j) (length page)) p) (r ∙ ap (λ (j : ℕ). min (h.written + j) (length h.output)) s)
-            ∙ sym (fed_next h page lent lengths rooms i t)
+            ap (λ (y : Handed). fed_all y page next (drop (i + 1) (some_of lengths)) (drop (i + 1) rooms)) e
+            ∙ ap₂ (λ (u v : ℕ). fed_all (fed_more h page u v) page u (drop (i + 1) (some_of lengths)) (drop (i + 1) rooms))
+            (q ∙ ap (λ (j : ℕ). min (lent + j) (length page)) (sym (some_get lengths i))) r
+            ∙ sym (fed_next h page lent (some_of lengths) rooms i (omega arith))
             ∙ g.made;
       }
 
-  pub going_end : (w : State) (out : List ℕ) (n lent₀ m edge : ℕ) (b : Handed) (i lent : ℕ) (h : Handed) → n ≡ get_or lengths 0 0
-      → lent₀ ≡ min (0 + n) (length page) → m ≡ get_or rooms 0 0 → edge ≡ min (0 + m) (length out)
-      → b ≡ fed_more (handed (rests Done w) out) page lent₀ edge → Going page lengths rooms lent₀ b i lent h → length lengths ≤ i
+  pub going_end : (i lent : ℕ) (h : Handed) → Going w page lengths rooms out i lent h → max (length lengths) 1 ≤ i
       → (h ≡ fed_cuts w page lengths rooms out) × Undivided w (lent_of page lengths) out h
   unfolding fed_all
-  going_end w out n lent₀ m edge b i lent h p q s r e g t =
+  going_end i lent h g t =
+      let s = some_length lengths in
       let f : h ≡ fed_cuts w page lengths rooms out =
-      sym (ap (λ (l : List ℕ). fed_all h page lent l (drop i rooms)) (drop_of_length-le lengths {i = i} t))
-      ∙ g.made
-      ∙ ap (λ (y : Handed). fed_all y page lent₀ (drop 1 lengths) (drop 1 rooms)) e
-      ∙ ap₂ (λ (u v : ℕ). fed_all (fed_more (handed (rests Done w) out) page u v) page u (drop 1 lengths) (drop 1 rooms))
-      (q ∙ ap (λ (j : ℕ). min (0 + j) (length page)) p) (r ∙ ap (λ (j : ℕ). min (0 + j) (length out)) s)
-      ∙ fed_first w page lengths rooms out in
+      sym (ap (λ (l : List ℕ). fed_all h page lent l (drop i rooms)) (drop_of_length-le (some_of lengths) {i = i} (omega arith)))
+      ∙ g.made in
       (f, subst (Undivided w (lent_of page lengths) out) (sym f) (cuts_undivided w page lengths rooms out))

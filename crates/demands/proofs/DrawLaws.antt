@@ -1,12 +1,11 @@
 -- A page opened, read by feed calls and ended
-use Rattle.std.specs.Prelude.{◌+◌, ◌-◌, ◌≤◌, ◌≡◌, ◌&&◌, ◌++◌}
+use Rattle.std.specs.Prelude.{◌+◌, ◌-◌, ◌≤◌, ◌≡◌, ◌&&◌, ◌++◌, Result, Ok, Err}
 use Rattle.demands.specs.Prelude.{ℕ, arith, refl, sym, ap, ◌∙◌, subst, Bool, true, false, List, append-nil, length, take, drop, length-take, length-drop, drop_of_length-le, take-append_seam, drop-append_seam, take-append-add, take_all, ltb, eqb, eq-eqb}
 use borrow.Rule.Slice.PartMut.{put_mid}
+use Rattle.rules.specs.declared.Refusal.{Refusal}
 use Rattle.rules.specs.declared.Refusal.TheVariants.{StoreSize}
 use Rattle.rules.specs.declared.Answer.{Answer}
 use Rattle.rules.specs.declared.Answer.TheVariants.{Done, Full, Refused}
-use Rattle.rules.specs.declared.Verdict.{Verdict}
-use Rattle.rules.specs.declared.Verdict.TheVariants.{Passes, Fails}
 use Rattle.rules.specs.Numbers.{store_size, room_for_step}
 use Rattle.rules.specs.Bodies.{bytes_left}
 use Rattle.rules.specs.Coding.{unfinished}
@@ -20,11 +19,10 @@ use Rattle.rules.proofs.Readings.{full_done, refused_done, refused_full, reads_f
 use Rattle.rules.proofs.CallLaws.{end_kept}
 use Rattle.rules.proofs.Demand3.{end_room}
 use Rattle.rules.proofs.Expanding.{expanded}
-use Rattle.rules.specs.declared.Fed.{Fed}
-use Rattle.rules.specs.Promises.{handed_of}
 use Rattle.rules.specs.declared.Opened.{Opened}
 use Rattle.rules.specs.declared.Ended.{Ended}
-use Rattle.rules.specs.Promises.{Opens, Ends}
+use Rattle.rules.specs.declared.Fed.{Fed}
+use Rattle.rules.specs.Promises.{Opens, Ends, handed_of}
 use Rattle.demands.specs.Cuts.{lent_of, fed_cuts, Undivided}
 use Rattle.demands.specs.Pictures.{end_more, end_after, end_done, drawn_cuts, Draws, DrawnAlike}
 
@@ -81,7 +79,7 @@ open_read terms store bytes a = by (eqb (length store) store_size) refl a
     by true e d = refl
     by false e d =
         let w = (open_as false terms store).state in
-        let t : tests w ≡ Fails StoreSize = ap (λ (b : Bool). verdict b w.session.status (fits w.session)) e in
+        let t : tests w ≡ Err StoreSize = ap (λ (b : Bool). verdict b w.session.status (fits w.session)) e in
         refused_done (ap (λ (x : Reading). x.answer) (sym (reads_failed Always w bytes t)) ∙ d)
 
 -- An end that answers 0 with 120 bytes free answers 0 or full whatever room it has
@@ -91,13 +89,13 @@ end_not_refused room w a =
     by (tests w) (bytes_left w.store w.session.bodies) (unfinished w.session.coding.waiting)
     (is_open w.session.drawing && ltb room room_for_step) (is_open w.session.drawing && ltb room_for_step room_for_step) a
   where
-    by : (v : Verdict) (l i f g : Bool) → (end_checks v l i g w).answer ≡ Done → NotRefused (end_checks v l i f w).answer
-    by (Fails s) l i f g b = refused_done b
-    by Passes true i f g b = refused_done b
-    by Passes false true f g b = refused_done b
-    by Passes false false true g b = λ r e. refused_full (sym e)
-    by Passes false false false true b = full_done b
-    by Passes false false false false b = λ r e. refused_done (sym e ∙ b)
+    by : (v : Result (Unit {0}) Refusal) (l i f g : Bool) → (end_checks v l i g w).answer ≡ Done → NotRefused (end_checks v l i f w).answer
+    by (Err s) l i f g b = refused_done b
+    by (Ok u) true i f g b = refused_done b
+    by (Ok u) false true f g b = refused_done b
+    by (Ok u) false false true g b = λ r e. refused_full (sym e)
+    by (Ok u) false false false true b = full_done b
+    by (Ok u) false false false false b = λ r e. refused_done (sym e ∙ b)
 
 -- The picture of calls that read all they were lent, and of an end
 

@@ -1,7 +1,7 @@
 // A page read in pieces of any lengths, into buffers of any sizes: demand 3 as the contract of functions that make the calls.
 #![tactic(auto)]
 
-ghost use Rattle.std.specs.Prelude.{◌≡◌, ◌+◌, ◌≤◌, min, length, get_or};
+ghost use Rattle.std.specs.Prelude.{◌≡◌, ◌≤◌, length};
 ghost use Rattle.rules.specs.Numbers.{store_size};
 ghost use Rattle.rules.specs.declared.Answer.TheVariants.{Done};
 ghost use Rattle.rules.specs.Calls.{with_budget};
@@ -23,27 +23,6 @@ pub struct Both {
     pub other: Fed,
 }
 
-// Past the last number, 0.
-fn number_at(numbers: &[usize], i: usize) -> usize
-    ensures { result ≡ get_or numbers.now i 0 }
-{
-    if numbers.len() <= i {
-        return 0;
-    }
-    numbers[i]
-}
-
-// So many further, as far as there is anything.
-fn reach(at: usize, further: usize, most: usize) -> usize
-    requires { at ≤ most }
-    ensures { result ≡ min (at + further) most }
-{
-    if further <= most - at {
-        return at + further;
-    }
-    most
-}
-
 // One call more: lent what is unread of the page's first `lent` bytes, and the output from what is written to `edge`.
 fn feed_more(
     before: Fed,
@@ -58,22 +37,18 @@ fn feed_more(
     ensures { handed_of result store.new out.new
         ≡ fed_more (handed_of before store.old out.old) page.now lent edge }
 {
-    let consumed = before.consumed;
-    let written = before.written;
     let fed = feed_from(
         before.session,
         store,
         &page[..lent],
-        consumed,
-        &mut out[written..edge],
+        before.consumed,
+        &mut out[before.written..edge],
     );
-    let answer = fed.answer;
-    let session = fed.session;
     Fed {
-        answer,
-        consumed: consumed + fed.consumed,
-        written: written + fed.written,
-        session,
+        answer: fed.answer,
+        consumed: before.consumed + fed.consumed,
+        written: before.written + fed.written,
+        session: fed.session,
     }
 }
 
@@ -92,21 +67,19 @@ pub fn feed_cuts(
     ensures undivided { Undivided (state_lent session store.old) (lent_of page.now lengths.now)
         out.old (handed_of result store.new out.new) }
 {
-    let mut lent = reach(0, number_at(lengths, 0), page.len());
-    let edge = reach(0, number_at(rooms, 0), out.len());
-    let none = Fed {
+    let mut lent: usize = 0;
+    let mut fed = Fed {
         answer: Answer::Done,
         consumed: 0,
         written: 0,
         session,
     };
-    let mut fed = feed_more(none, store, page, lent, out, edge);
-    let mut i: usize = 1;
-    while i < lengths.len() {
-        lent = reach(lent, number_at(lengths, i), page.len());
-        let edge = reach(fed.written, number_at(rooms, i), out.len());
+    for i in 0..lengths.len().max(1) {
+        let further = lengths.get(i).copied().unwrap_or(0);
+        lent = lent.saturating_add(further).min(page.len());
+        let room = rooms.get(i).copied().unwrap_or(0);
+        let edge = fed.written.saturating_add(room).min(out.len());
         fed = feed_more(fed, store, page, lent, out, edge);
-        i += 1;
     }
     fed
 }
@@ -117,15 +90,12 @@ fn end_more(before: Fed, store: &[u8], out: &mut [u8]) -> Fed
     ensures { handed_of result store.now out.new
         ≡ end_more (handed_of before store.now out.old) }
 {
-    let written = before.written;
-    let ended = end(before.session, store, &mut out[written..]);
-    let answer = ended.answer;
-    let session = ended.session;
+    let ended = end(before.session, store, &mut out[before.written..]);
     Fed {
-        answer,
-        consumed: before.consumed,
-        written: written + ended.written,
-        session,
+        answer: ended.answer,
+        written: before.written + ended.written,
+        session: ended.session,
+        ..before
     }
 }
 
@@ -135,8 +105,7 @@ fn end_done(before: Fed, store: &[u8], out: &mut [u8]) -> Fed
     ensures { handed_of result store.now out.new
         ≡ end_done (handed_of before store.now out.old) }
 {
-    let answer = before.answer;
-    match answer {
+    match before.answer {
         Answer::Done => end_more(before, store, out),
         Answer::Full => before,
         Answer::Refused(_) => before,

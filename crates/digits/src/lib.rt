@@ -1,4 +1,5 @@
-// Numbers as text: what puts them at a place answers the place after it.
+// Numbers as text: what puts them at a place answers the place after it. The digits are put by hand: each step has an edit in
+// must-fail/ that has to be refused, and std's formatting has no such steps.
 #![tactic(auto)]
 
 ghost use Rattle.std.specs.Prelude.{◌≡◌, [], ◌∷◌, ◌+◌, ◌≤◌, ◌<◌, length};
@@ -92,5 +93,5 @@ pub fn put_signed(text: &mut [u8], at: usize, pattern: u32) -> usize
         return put_number(text, at, pattern);
     }
     let to = put_byte(text, at, b'-');
-    put_number(text, to, 0xffff_ffff - pattern + 1)
+    put_number(text, to, pattern.wrapping_neg())
 }

@@ -1,4 +1,3 @@
-pub mod Prelude
 pub mod Refusals
 pub mod RangeLaws
 pub mod AfterLaws

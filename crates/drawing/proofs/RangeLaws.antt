@@ -1,6 +1,6 @@
 -- What a drawing state in range has.
 use Rattle.std.specs.Prelude.{◌≤◌, ◌<◌, ◌≡◌, ◌&&◌}
-use Rattle.drawing.proofs.Prelude.{ℕ, arith, true, leb, eqb, ltb-true, leb-true, eqb-true}
+use Rattle.std.proofs.Common.{ℕ, arith, true, leb, eqb, ltb-true, leb-true, eqb-true}
 use Rattle.rules.specs.declared.Domain.{Domain}
 use Rattle.rules.specs.declared.Drawing.{Drawing}
 use Rattle.rules.specs.declared.Role.{Role}

@@ -1,6 +1,6 @@
 -- The drawing rules refuse with TooManyVertices only; closing refuses before it finishes.
 use Rattle.std.specs.Prelude.{◌≡◌, ◌∷◌}
-use Rattle.drawing.proofs.Prelude.{refl, Bool, List, [], ℕ, suc, ltb, eqb}
+use Rattle.std.proofs.Common.{refl, Bool, List, [], ℕ, suc, ltb, eqb}
 use Rattle.rules.specs.declared.Action.{Action}
 use Rattle.rules.specs.declared.Action.TheVariants.{Idle, Close, Control, Cancel, Format, Reset, Position, Character, Opcode, Data}
 use Rattle.rules.specs.declared.Mode.{Mode}

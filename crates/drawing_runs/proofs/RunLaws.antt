@@ -1,6 +1,6 @@
 -- Runs over operands that come whole.
-use Rattle.std.specs.Prelude.{◌+◌, ◌≤◌, ◌<◌, ◌≡◌, ◌∷◌, ◌++◌}
-use Rattle.drawing_runs.specs.Prelude.{ℕ, zero, suc, add_assoc, add-suc, add-zero, arith, refl, sym, ap, ◌∙◌, subst, Bool, true, false, List, [], append-nil, length, get_or, set, take, drop, length-set, length-drop, take-suc, take-suc-set, get_or-drop, get_or-take, length-take-le, lt-ltb, le-ltb, ne_eqb}
+use Rattle.std.specs.Prelude.{◌+◌, ◌-◌, ◌≤◌, ◌<◌, ◌≡◌, ◌∷◌, ◌++◌, slice_range}
+use Rattle.drawing_runs.specs.Prelude.{ℕ, zero, suc, add_assoc, add-suc, add-zero, arith, refl, sym, ap, ◌∙◌, subst, Bool, true, false, List, [], append-nil, length, get_or, set, take, drop, take_all, length-set, length-drop, take-suc, take-suc-set, get_or-drop, get_or-take, length-take-le, lt-ltb, le-ltb, ne_eqb}
 use Rattle.rules.specs.declared.Action.TheVariants.{Data}
 use Rattle.rules.specs.declared.Drawing.{Drawing}
 use Rattle.rules.specs.declared.Operand.{Operand}
@@ -13,9 +13,9 @@ use Rattle.rules.specs.Numbers.{room_for_step}
 use Rattle.rules.specs.Choice.{pick}
 use Rattle.rules.specs.Operands.{point, all_data, begun}
 use Rattle.rules.specs.Drawing.{row_of, length_of, with_operand, Outcome, Draw, and_then, apply, next_operand, role_due, apply_begun, take_byte, data_byte, act}
-use Rattle.rules.proofs.Bools.{pick_yes, pick_no, true_false}
-use Rattle.operands.specs.declared.whole.Whole.{Whole}
-use Rattle.operands.specs.declared.whole.Whole.TheVariants.{Cut, Whole as Whole·point}
+use Rattle.rules.proofs.Bools.{pick_yes, pick_no}
+use Rattle.std.proofs.Common.{Option, Some, None}
+use Rattle.std.proofs.lemmas.Option.{none-some}
 use Rattle.operands.specs.Data.{whole_of}
 use Rattle.rules.proofs.Reacting.{data_range}
 use Rattle.operands.proofs.WholeLaws.{all_at}
@@ -123,23 +123,49 @@ run_then {s} {bytes} {from} {j} {x} {y} {k} r (more {n} {y = w} {a} {e} {rs} q a
     subst (λ (i : ℕ). Run s bytes from x i (carry (Draw e rs) w.drawing w.at w.output)) (sym (add-suc j n))
     (more (run_then r q) (subst (λ (i : ℕ). ActsAs s (get_or bytes i 0) a) (add_assoc from j n) acts) room drew)
 
+-- A run over bytes that stand at another place too is a run there
+run_over : {s : Set} (part bytes : List ℕ) (j from : ℕ) {x : Carried} {k : ℕ} {y : Carried} → ((i : ℕ) → i < k → get_or part (j + i) 0 ≡ get_or bytes (from + i) 0)
+    → Run s part j x k y → Run s bytes from x k y
+run_over part bytes j from same none = none
+run_over {s} part bytes j from same (more {n} {a = a} r acts room drew) =
+    more (run_over part bytes j from (λ i h. same i (omega (arith, h))) r) (subst (λ (b : ℕ). ActsAs s b a) (same n (omega arith)) acts) room drew
+
+-- The bytes from a place on
+pub rest_all : (bytes : List ℕ) (from : ℕ) → slice_range bytes from (length bytes) ≡ drop from bytes
+rest_all bytes from = take_all (length bytes - from) (drop from bytes) (omega (arith, length-drop from bytes))
+
+pub rest_length : (bytes : List ℕ) (from : ℕ) → length (slice_range bytes from (length bytes)) ≡ length bytes - from
+rest_length bytes from = ap length (rest_all bytes from) ∙ length-drop from bytes
+
+-- A run over the bytes from a place on, over so many, or over those between two places, is a run at the place
+pub run_dropped : {s : Set} (bytes : List ℕ) (from : ℕ) {x : Carried} {k : ℕ} {y : Carried} → Run s (slice_range bytes from (length bytes)) 0 x k y → Run s bytes from x k y
+run_dropped bytes from run =
+    run_over (slice_range bytes from (length bytes)) bytes 0 from
+    (λ i h. ap (λ (l : List ℕ). get_or l (0 + i) 0) (rest_all bytes from) ∙ get_or-drop from bytes (0 + i) 0 ∙ ap (λ (n : ℕ). get_or bytes n 0) (omega arith))
+    run
+
+pub run_taken : {s : Set} (bytes : List ℕ) (most : ℕ) {x : Carried} {k : ℕ} {y : Carried} → k ≤ most → Run s (take most bytes) 0 x k y → Run s bytes 0 x k y
+run_taken bytes most few run = run_over (take most bytes) bytes 0 0 (λ i h. get_or-take most bytes (0 + i) 0 (omega (arith, h, few))) run
+
+pub run_between : {s : Set} (bytes : List ℕ) (from to : ℕ) {x : Carried} {k : ℕ} {y : Carried} → k ≤ to - from → Run s (slice_range bytes from to) 0 x k y → Run s bytes from x k y
+run_between bytes from to few run =
+    run_over (slice_range bytes from to) bytes 0 from
+    (λ i h. get_or-take (to - from) (drop from bytes) (0 + i) 0 (omega (arith, h, few)) ∙ get_or-drop from bytes (0 + i) 0 ∙ ap (λ (n : ℕ). get_or bytes n 0) (omega arith))
+    run
+
 -- An operand that is cut has no point
-pub cut_whole {ℓ} : {A : Type ℓ} {v : Point} → Cut ≡ Whole·point v → A
-cut_whole e = true_false (ap is_cut e)
-  where
-    is_cut : Whole → Bool
-    is_cut Cut = true
-    is_cut (Whole·point p) = false
+pub cut_whole {ℓ} : {A : Type ℓ} {v : Point} → None ≡ Some v → A
+cut_whole {v} e = absurd (none-some v e)
 
 -- A point was read: its bytes are data
-pub whole_tells : (three : Bool) (bs : List ℕ) (v : Point) → whole_of three bs ≡ Whole·point v → (all_data bs ≡ true) × (v ≡ point three bs)
+pub whole_tells : (three : Bool) (bs : List ℕ) (v : Point) → whole_of three bs ≡ Some v → (all_data bs ≡ true) × (v ≡ point three bs)
 unfolding whole_of
 whole_tells three bs v e = by (all_data bs) refl e
   where
-    point_of : Whole → Point
-    point_of Cut = v
-    point_of (Whole·point p) = p
+    point_of : Option Point → Point
+    point_of None = v
+    point_of (Some p) = p
 
-    by : (t : Bool) → all_data bs ≡ t → pick t (Whole·point (point three bs)) Cut ≡ Whole·point v → (all_data bs ≡ true) × (v ≡ point three bs)
+    by : (t : Bool) → all_data bs ≡ t → pick t (Some (point three bs)) None ≡ Some v → (all_data bs ≡ true) × (v ≡ point three bs)
     by true a f = (a, sym (ap point_of f))
     by false a f = cut_whole f

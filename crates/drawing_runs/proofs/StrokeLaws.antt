@@ -1,6 +1,6 @@
 -- Runs of POINT SET and LINE to points of three bytes in two dimensions.
-use Rattle.std.specs.Prelude.{◌+◌, ◌*◌, ◌-◌, ◌≤◌, ◌≡◌, ◌∷◌, ◌++◌, ◌&&◌}
-use Rattle.drawing_runs.specs.Prelude.{ℕ, zero, suc, arith, refl, sym, ap, ◌∙◌, subst, Bool, true, false, not, List, [], length, take, drop, eqb}
+use Rattle.std.specs.Prelude.{◌+◌, ◌*◌, ◌-◌, ◌<◌, ◌≤◌, ◌≡◌, ◌∷◌, ◌++◌, ◌&&◌}
+use Rattle.drawing_runs.specs.Prelude.{ℕ, zero, suc, arith, refl, sym, ap, ◌∙◌, subst, Bool, true, false, not, List, [], length, get_or, take, drop, length-drop, get_or-drop, drop-drop, take_all, eqb}
 use Rattle.rules.specs.declared.Command.{Command}
 use Rattle.rules.specs.declared.Due.TheVariants.{First}
 use Rattle.rules.specs.declared.Drawing.{Drawing}
@@ -115,41 +115,64 @@ module _ (bytes : List ℕ) (from n : ℕ) (q : Point) (h : from + n + 3 ≤ len
         subst (λ (y : List ℕ). Run Pdi bytes from x (n + 3) (standing (pen_after (n + 3) true p q) c l m (at + 40) y)) (sym written) drawn,
       )
 
--- The same at the place i that a loop has reached
-pub moves_on : (bytes : List ℕ) (from i : ℕ) → from ≤ i → (q : Point) → i + 3 ≤ length bytes
-    → all_data (take 3 (drop i bytes)) ≡ true → q ≡ point false (take 3 (drop i bytes))
-    → (old : Point) → Moves bytes from (i - from) old → Moves bytes from (i + 3 - from) q
-moves_on bytes from i l q h all is old moves =
-    let reached : i ≡ from + (i - from) = omega arith in
-    let further : i - from + 3 ≡ i + 3 - from = omega arith in
-    subst (λ (k : ℕ). Moves bytes from k q) further
-    (moves_more bytes from (i - from) q (omega arith)
-    (subst (λ (k : ℕ). all_data (take 3 (drop k bytes)) ≡ true) reached all) (subst (λ (k : ℕ). q ≡ point false (take 3 (drop k bytes))) reached is)
-    old moves)
+-- A loop has left the bytes rest, which are the last, and the drawing point is at the last point read
+pub record MovesSoFar (bytes rest : List ℕ) (point : Point) : Type 0 where
+  pub within : length rest ≤ length bytes
+  pub here : rest ≡ drop (length bytes - length rest) bytes
+  pub moves : Moves bytes 0 (length bytes - length rest) point
+
+pub rest_fits : (bytes rest : List ℕ) (q : Point) → MovesSoFar bytes rest q → ((i : ℕ) → get_or bytes i 0 < 256) → (i : ℕ) → get_or rest i 0 < 256
+rest_fits bytes rest q so_far fits i =
+    let n = length bytes - length rest in
+    let same : get_or rest i 0 ≡ get_or bytes (n + i) 0 = ap (λ (l : List ℕ). get_or l i 0) so_far.here ∙ get_or-drop n bytes i 0 in
+    subst (λ (k : ℕ). k < 256) (sym same) (fits (n + i))
+
+pub moves_on : (bytes rest : List ℕ) (q old : Point) → MovesSoFar bytes rest old → 3 ≤ length rest
+    → all_data (take 3 rest) ≡ true → q ≡ point false (take 3 rest)
+    → MovesSoFar bytes (take (length rest - 3) (drop 3 rest)) q
+moves_on bytes rest q old so_far some all is =
+    let n = length bytes - length rest in
+    let h = so_far.within in
+    let long = length-drop 3 rest in
+    let further : n + 3 ≡ length bytes - length (drop 3 rest) = omega (arith, long) in
+    let here : rest ≡ drop (0 + n) bytes = so_far.here ∙ ap (λ (k : ℕ). drop k bytes) (omega arith) in
+    let after : drop 3 rest ≡ drop (length bytes - length (drop 3 rest)) bytes
+    = ap (drop 3) so_far.here ∙ drop-drop 3 n bytes ∙ ap (λ (k : ℕ). drop k bytes) further in
+    let moved : Moves bytes 0 (n + 3) q
+    = moves_more bytes 0 n q (omega arith) (subst (λ (l : List ℕ). all_data (take 3 l) ≡ true) here all) (subst (λ (l : List ℕ). q ≡ point false (take 3 l)) here is) old so_far.moves in
+    subst (λ (l : List ℕ). MovesSoFar bytes l q) (sym (take_all (length rest - 3) (drop 3 rest) (omega (arith, long))))
+    (record { within = omega (arith, long); here = after; moves = subst (λ (k : ℕ). Moves bytes 0 k q) further moved })
+
+pub moves_none : (bytes : List ℕ) (q : Point) → MovesSoFar bytes bytes q
+moves_none bytes q =
+    let none_read : 0 ≡ length bytes - length bytes = omega arith in
+    record {
+      within = omega arith;
+      here = ap (λ (k : ℕ). drop k bytes) none_read;
+      moves = subst (λ (k : ℕ). Moves bytes 0 k q) none_read (λ p c l m at out ready room. none);
+    }
 
 -- The same after n points
-pub lines_on : (bytes : List ℕ) (from n : ℕ) (q : Point) → from + 3 * n + 3 ≤ length bytes
-    → all_data (take 3 (drop (from + 3 * n) bytes)) ≡ true → q ≡ point false (take 3 (drop (from + 3 * n) bytes))
+pub lines_on : (bytes : List ℕ) (n : ℕ) (q : Point) → 3 * n + 3 ≤ length bytes
+    → all_data (take 3 (drop (3 * n) bytes)) ≡ true → q ≡ point false (take 3 (drop (3 * n) bytes))
     → (head : Head) (pel p₀ : Point) (at : ℕ) (out₀ : List ℕ) (old : Point) (out out' : List ℕ)
     → at + 40 * n + room_for_step ≤ length out
     → out' ≡ overwrite (at + 40 * n) (head_bytes head ++ words old ++ words q ++ words origin ++ words pel) out
-    → Lines bytes from head pel p₀ at out₀ (3 * n) old (at + 40 * n) out
-    → Lines bytes from head pel p₀ at out₀ (3 * (n + 1)) q (at + 40 * (n + 1)) out'
-lines_on bytes from n q h all is head pel p₀ at out₀ old out out' room wrote lines =
+    → Lines bytes 0 head pel p₀ at out₀ (3 * n) old (at + 40 * n) out
+    → Lines bytes 0 head pel p₀ at out₀ (3 * (n + 1)) q (at + 40 * (n + 1)) out'
+lines_on bytes n q h all is head pel p₀ at out₀ old out out' room wrote lines =
+    let here : 3 * n ≡ 0 + 3 * n = omega arith in
     let count : 3 * n + 3 ≡ 3 * (n + 1) = omega arith in
     let place : at + 40 * n + 40 ≡ at + 40 * (n + 1) = omega arith in
-    subst (λ (k : ℕ). Lines bytes from head pel p₀ at out₀ k q (at + 40 * (n + 1)) out') count
-    (subst (λ (k : ℕ). Lines bytes from head pel p₀ at out₀ (3 * n + 3) q k out') place
-    (lines_more bytes from (3 * n) q h all is head pel p₀ at out₀ old (at + 40 * n) out out' room wrote lines))
+    subst (λ (k : ℕ). Lines bytes 0 head pel p₀ at out₀ k q (at + 40 * (n + 1)) out') count
+    (subst (λ (k : ℕ). Lines bytes 0 head pel p₀ at out₀ (3 * n + 3) q k out') place
+    (lines_more bytes 0 (3 * n) q (omega arith) (subst (λ (k : ℕ). all_data (take 3 (drop k bytes)) ≡ true) here all) (subst (λ (k : ℕ). q ≡ point false (take 3 (drop k bytes))) here is)
+    head pel p₀ at out₀ old (at + 40 * n) out out' room wrote lines))
 
 -- Where a loop begins
-pub moves_none : (bytes : List ℕ) (from : ℕ) (q : Point) → Moves bytes from (from - from) q
-moves_none bytes from q =
-    subst (λ (k : ℕ). Moves bytes from k q) (omega arith) (λ p c l m at out ready room. none)
-
-pub lines_none : (bytes : List ℕ) (from : ℕ) (head : Head) (pel q : Point) (at : ℕ) (out : List ℕ) → Lines bytes from head pel q at out 0 q (at + 40 * 0) out
-lines_none bytes from head pel q at out =
-    subst (λ (k : ℕ). Lines bytes from head pel q at out 0 q k out) (omega arith) (λ p c l m ready start heads pels. (start, none))
+pub lines_none : (bytes : List ℕ) (head : Head) (pel q : Point) (at : ℕ) (out : List ℕ) → Lines bytes 0 head pel q at out 0 q (at + 40 * 0) out
+lines_none bytes head pel q at out =
+    subst (λ (k : ℕ). Lines bytes 0 head pel q at out 0 q k out) (omega arith) (λ p c l m ready start heads pels. (start, none))
 
 -- What is tested of a pen, a command and a look
 pub ready_told : {kind : ℕ} (p : Pen) (c : Command) (l : Look) → length p.operand.bytes ≡ 8 → p.operand.count ≡ 0 → c.due ≡ First

@@ -37,7 +37,7 @@ pub data Run (s : Set) (bytes : List ℕ) (from : ℕ) (x : Carried) : ℕ → C
       → Run s bytes from x (suc n) (carry (Draw e rs) y.drawing y.at y.output)
 
 -- What a run of bytes of a set comes to from a drawing state, whatever its map holds, with the output left so
-abbrev pub RunsTo : Set → List ℕ → ℕ → Pen → Command → Look → ℕ → List ℕ → Ran → List ℕ → Type 0
+abbrev pub RunsTo : Set → List ℕ → ℕ → Pen → Command → Look → ℕ → List ℕ → Ran Pen → List ℕ → Type 0
 RunsTo s bytes from pen command look at out r left =
     (m : List ℕ)
-    → Run s bytes from (standing pen command look m at out) r.count (standing r.pen r.command look m r.at left)
+    → Run s bytes from (standing pen command look m at out) r.count (standing r.left r.command look m r.at left)

@@ -16,7 +16,8 @@ use Rattle.rules.specs.Record.{record_of}
 use Rattle.records.specs.declared.Head.{Head}
 use Rattle.records.specs.Bytes.{head_of, head_bytes}
 use Rattle.figures.specs.Tracing.{pen_at, moved_if}
-use Rattle.drawing_runs.specs.declared.Passed.{Passed}
+use Rattle.drawing_runs.specs.declared.Moved.{Moved}
+use Rattle.drawing_runs.specs.declared.Ran.{Ran}
 use Rattle.drawing_runs.specs.Run.{standing, Run}
 
 -- A pen with no operand begun
@@ -29,11 +30,11 @@ pen_after zero w p q = p
 pen_after (suc n) w p q = rested (moved_if w q p)
 
 -- What a run of PDI bytes that looks at no text comes to, whatever text and map hold, with the output left so
-abbrev pub PassesTo : List ℕ → ℕ → Point → Operand → Command → Look → ℕ → List ℕ → Passed → List ℕ → Type 0
+abbrev pub PassesTo : List ℕ → ℕ → Point → Operand → Command → Look → ℕ → List ℕ → Ran Moved → List ℕ → Type 0
 PassesTo bytes from p o command look at out r left =
     (t : Text) (m : List ℕ)
     → Run Pdi bytes from (standing (pen_at p t o) command look m at out) r.count
-    (standing (pen_after r.count r.moved (pen_at p t o) r.point) r.command look m r.at left)
+    (standing (pen_after r.count r.left.moved (pen_at p t o) r.left.point) r.command look m r.at left)
 
 -- The first operand is due of such a command, with figures of a kind that are not filled; none of it is begun
 pub record StrokeDue (kind : ℕ) (p : Pen) (c : Command) (l : Look) : Type 0 where

@@ -6,35 +6,36 @@ pub mod strokes;
 ghost use Rattle.std.specs.Prelude.{ℕ, ◌+◌, ◌*◌, ◌<◌, ◌≤◌};
 ghost use Rattle.rules.specs.Numbers.{room_for_step};
 
-use pens::tips::Tip;
-use rules::{Command, Pen, Point, RECORD_SIZE, ROOM_FOR_STEP};
+use rules::{Command, Point, RECORD_SIZE, ROOM_FOR_STEP};
 
-// How many bytes a run took, the place after their records, and what they left.
+// Opcodes whose operands have a loop of their own.
+pub const TEXT: u8 = 34;
+
+pub const POINT_SET: u8 = 36;
+
+pub const LINE: u8 = 40;
+
+// How many bytes were taken, and what they left.
 #[derive(Clone, Copy)]
-pub struct Ran {
+pub struct Taken<T> {
+    pub count: usize,
+    pub left: T,
+}
+
+// How many bytes a run took, the place after their records, and what they left: the pen or a part of it, and the command.
+#[derive(Clone, Copy)]
+pub struct Ran<T> {
     pub count: usize,
     pub at: usize,
-    pub pen: Pen,
+    pub left: T,
     pub command: Command,
 }
 
-// The same of a run that looks at no text: the point, and whether it was moved.
+// What a run that looks at no text leaves of the pen. The point stands where it was not moved too: the next byte is acted on at it.
 #[derive(Clone, Copy)]
-pub struct Passed {
-    pub count: usize,
-    pub at: usize,
+pub struct Moved {
     pub moved: bool,
     pub point: Point,
-    pub command: Command,
-}
-
-// The same of a run with the pen apart from its text.
-#[derive(Clone, Copy)]
-pub struct Drew {
-    pub count: usize,
-    pub at: usize,
-    pub tip: Tip,
-    pub command: Command,
 }
 
 // How many steps of one record each can be taken before what is left ends, or the room for a step.
@@ -44,9 +45,5 @@ pub fn most_steps(left: usize, room: usize) -> usize
     if room < ROOM_FOR_STEP {
         return 0;
     }
-    let places = (room - 80) / RECORD_SIZE;
-    if left < places {
-        return left;
-    }
-    places
+    left.min((room - 80) / RECORD_SIZE)
 }

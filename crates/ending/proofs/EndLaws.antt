@@ -1,6 +1,7 @@
 -- Closing carried out, and what end hands over
 use Rattle.std.specs.Prelude.{◌≤◌, ◌<◌, ◌≡◌, ◌&&◌}
-use Rattle.ending.specs.Prelude.{ℕ, zero-add, sym, ap, ◌∙◌, true, false, and-false, List, length, ltb, ne_eqb, lt-ltb, le-ltb}
+use Rattle.std.proofs.Math.Bool.{and-false}
+use Rattle.std.proofs.Common.{ℕ, zero-add, sym, ap, ◌∙◌, true, false, List, length, ltb, ne_eqb, lt-ltb, le-ltb}
 use Rattle.rules.specs.declared.Action.TheVariants.{Close}
 use Rattle.rules.specs.declared.Refusal.{Refusal}
 use Rattle.rules.specs.declared.Refusal.TheVariants.{TooManyVertices, EndInside, BodyBytesLeft}
@@ -19,34 +20,32 @@ use Rattle.rules.proofs.Bools.{true_false, false_true}
 use Rattle.rules.proofs.RecordCount.{closed_close}
 use Rattle.rules.proofs.Steps.{valid_tests}
 use Rattle.records.proofs.Writes.{overwrite_start}
-use Rattle.figures.specs.declared.Drawn.{Drawn}
-use Rattle.figures.specs.Carried.{Carried, carry, drawing_of, carried_of}
+use Rattle.rules.specs.declared.Drawing.{Drawing}
+use Rattle.figures.specs.Carried.{Carried, carry}
 use Rattle.drawing.proofs.Refusals.{OnlyVertices}
 use Rattle.rules.specs.declared.Ended.{Ended as End}
 use Rattle.rules.specs.Promises.{ending_of}
 use Rattle.ending.specs.Ending.{session_with}
 
--- From the answer of closing: refused, the session is stopped with 9 and the output left; else the session is ended
-pub stopped_so : (o : Outcome) (s : Session) (st out left m : List ℕ) (x : Drawn) (r : End) → OnlyVertices o
-    → carried_of x m left ≡ carry o s.drawing 0 out → x.too_many_vertices ≡ true
-    → r ≡ record { answer = Refused TooManyVertices; written = 0; session = session_with (Stopped TooManyVertices) s.drawing s }
+-- Closing carried out left the drawing state e and the output: refused, the session is stopped with 9; else it is ended
+pub stopped_so : (o : Outcome) (s : Session) (e : Drawing) (st out left : List ℕ) (r : End) → OnlyVertices o
+    → record { refused = true; drawing = e; at = 0; output = left } ≡ carry o s.drawing 0 out
+    → r ≡ record { answer = Refused TooManyVertices; written = 0; session = session_with (Stopped TooManyVertices) e s }
     → ending_of r st left ≡ handed (ended o (state_lent s st)) out
 unfolding carry ended
-stopped_so (NotDrawn q) s st out left m x r v e f h =
+stopped_so (NotDrawn q) s e st out left r v f h =
     ap (λ (z : End). ending_of z st left) h
-    ∙ ap (λ (z : Carried). handed (halts TooManyVertices (state_lent s st)) z.output) e
+    ∙ ap (λ (z : Carried). ending_of (record { answer = Refused TooManyVertices; written = 0; session = session_with (Stopped TooManyVertices) z.drawing s }) st z.output) f
     ∙ ap (λ (z : Refusal). handed (halts z (state_lent s st)) out) (sym v)
-stopped_so (Draw d rs) s st out left m x r v e f h = false_true (sym (ap (λ (z : Carried). z.refused) e) ∙ f)
+stopped_so (Draw d rs) s e st out left r v f h = true_false (ap (λ (z : Carried). z.refused) f)
 
-pub ended_so : (o : Outcome) (s : Session) (st out left m : List ℕ) (x : Drawn) (z : Session)
-    → carried_of x m left ≡ carry o s.drawing 0 out → x.too_many_vertices ≡ false
-    → z ≡ session_with Ended (drawing_of x.pen x.command x.look m) s
-    → ending_of (record { answer = Done; written = x.at; session = z }) st left ≡ handed (ended o (state_lent s st)) out
+pub ended_so : (o : Outcome) (s : Session) (e : Drawing) (n : ℕ) (st out left : List ℕ)
+    → record { refused = false; drawing = e; at = n; output = left } ≡ carry o s.drawing 0 out
+    → ending_of (record { answer = Done; written = n; session = session_with Ended e s }) st left ≡ handed (ended o (state_lent s st)) out
 unfolding carry ended
-ended_so (NotDrawn q) s st out left m x z e f h = true_false (sym (ap (λ (y : Carried). y.refused) e) ∙ f)
-ended_so (Draw d rs) s st out left m x z e f h =
-    ap (λ (y : Session). ending_of (record { answer = Done; written = x.at; session = y }) st left) h
-    ∙ ap (λ (y : Carried). ending_of (record { answer = Done; written = y.at; session = session_with Ended y.drawing s }) st y.output) e
+ended_so (NotDrawn q) s e n st out left f = false_true (ap (λ (y : Carried). y.refused) f)
+ended_so (Draw d rs) s e n st out left f =
+    ap (λ (y : Carried). ending_of (record { answer = Done; written = y.at; session = session_with Ended y.drawing s }) st y.output) f
     ∙ (λ i. record {
       answer = Done;
       state = state_lent (session_with Ended d s) st;

@@ -4,16 +4,11 @@
 // once. A read or a write that fails is said on standard error and ends the program.
 #![tactic(auto)]
 
-ghost use Rattle.std.specs.Prelude.{◌≡◌, ◌<◌};
-ghost use Rattle.rules.specs.Reading.{steps_left};
-ghost use Rattle.rules.specs.Step.{state_lent};
-ghost use Rattle.reader.specs.PieceRead.{PieceRead};
+ghost use Rattle.std.specs.Prelude.{◌≡◌, Ok};
 
-use reader::end::end;
-use reader::feed::feed_from;
+use pages::Page;
+use pages::error::PageError;
 use reader::number::number_of;
-use reader::open::open;
-use rules::{Answer, STORE_SIZE, Session};
 use std::fs::File;
 use std::io;
 use std::io::{Read, Seek, SeekFrom};
@@ -21,50 +16,14 @@ use std::rt::{Env, Files};
 
 const MOST_ROUNDS: u32 = 1000000;
 
-// What follows a piece: the next piece, the end of the page, or nothing, since a read failed.
-#[derive(Clone, Copy)]
-enum Next {
-    Read,
-    End,
-    Failed,
-}
-
-// The session that a piece leaves, and what follows it.
-#[derive(Clone, Copy)]
-struct Handover {
-    session: Session,
-    next: Next,
-}
-
-fn hand_on(session: Session, next: Next) -> Handover
-    ensures { result ≡ record { session = session; next = next } }
-{
-    Handover { session, next }
-}
-
-fn wide(byte: u8) -> u32
-    ensures { result ≡ byte }
-{
-    byte as u32
-}
-
 // The number that decimal digits stand for, as far as they are digits and stay in range.
 fn number_in(text: &[u8]) -> u32 {
     let mut number: u32 = 0;
-    let mut i: usize = 0;
-    while i < text.len() {
-        let digit = text[i];
-        if digit < 48 {
+    for byte in text {
+        if !byte.is_ascii_digit() || MOST_ROUNDS < number {
             return number;
         }
-        if 57 < digit {
-            return number;
-        }
-        if MOST_ROUNDS < number {
-            return number;
-        }
-        number = 10 * number + wide(digit - 48);
-        i += 1;
+        number = 10 * number + u32::from(byte - b'0');
     }
     number
 }
@@ -77,73 +36,11 @@ fn rounds_asked(rt: &impl Env) -> u32 {
     }
 }
 
-// Feeds a piece until it is read or a step is refused.
-fn feed_piece(
-    session: Session,
-    store: &mut [u8; STORE_SIZE],
-    piece: &[u8],
-    out: &mut [u8; 163840],
-) -> Handover
-    ensures { PieceRead Next.Read Next.End (state_lent session store.old) piece.now
-        result.next (state_lent result.session store.new) }
+// The records of a call are let go.
+fn drop_records(_records: &[u8]) -> io::Result<()>
+    ensures { result ≡ Ok tt }
 {
-    let mut session = session;
-    let mut at: usize = 0;
-    loop {
-        let fed = feed_from(session, store, piece, at, out);
-        session = fed.session;
-        let answer = fed.answer;
-        match answer {
-            Answer::Done => return hand_on(session, Next::Read),
-            Answer::Refused(_) => return hand_on(session, Next::End),
-            Answer::Full => at += fed.consumed,
-        }
-    }
-}
-
-fn input_failed(rt: &impl Eprint, session: Session, error: io::Error) -> Handover
-    ensures { result.next ≡ Next.Failed }
-{
-    let _ = eprintln!(rt; "standard input: {error}");
-    hand_on(session, Next::Failed)
-}
-
-// Feeds a piece of standard input. One that is read has bytes, so less of the budget is left, and the loop over pieces ends.
-fn read_once(
-    rt: &impl Eprint,
-    input: &mut impl Read,
-    session: Session,
-    store: &mut [u8; STORE_SIZE],
-    piece: &mut [u8],
-    out: &mut [u8; 163840],
-) -> Handover
-    ensures { result.next ≡ Next.Read →
-        steps_left (state_lent result.session store.new) < steps_left (state_lent session store.old) }
-{
-    match input.read(piece) {
-        Ok(0) => hand_on(session, Next::End),
-        Ok(n) => feed_piece(session, store, &piece[..n], out),
-        Err(error) => input_failed(rt, session, error),
-    }
-}
-
-fn read_page(
-    rt: &impl Eprint,
-    input: &mut impl Read,
-    session: Session,
-    store: &mut [u8; STORE_SIZE],
-    piece: &mut [u8],
-    out: &mut [u8; 163840],
-) -> Handover {
-    let mut session = session;
-    loop {
-        let handover = read_once(rt, input, session, store, piece, out);
-        session = handover.session;
-        let next = handover.next;
-        let Next::Read = next else {
-            return handover;
-        };
-    }
+    Ok(())
 }
 
 // Standard input once more, from the start of the file that it is.
@@ -168,54 +65,28 @@ fn keep_page<R: Files + AllocGlobal>(
 }
 
 // Reads the page once more from its start: the page that is kept, else the file.
-fn read_again(
-    rt: &(impl Files + Eprint),
-    kept: Option<&[u8]>,
-    store: &mut [u8; STORE_SIZE],
-    piece: &mut [u8],
-    out: &mut [u8; 163840],
-) -> Handover {
-    let opened = open(store, u32::MAX);
-    let session = opened.session;
-    if let Some(page) = kept {
-        let mut input = page;
-        return read_page(rt, &mut input, session, store, piece, out);
+fn read_again(rt: &impl Files, kept: Option<&[u8]>, page: &mut Page) -> Result<(), PageError> {
+    page.reopen();
+    if let Some(mut bytes) = kept {
+        return page.read(&mut bytes, &mut drop_records);
     }
-    match from_start(rt) {
-        Ok(mut input) => read_page(rt, &mut input, session, store, piece, out),
-        Err(error) => input_failed(rt, session, error),
-    }
+    let mut input = from_start(rt).map_err(PageError::Input)?;
+    page.read(&mut input, &mut drop_records)
 }
 
 fn read_rounds(
-    rt: &(impl Files + Eprint),
+    rt: &impl Files,
     input: &mut impl Read,
     kept: Option<&[u8]>,
     rounds: u32,
-    store: &mut [u8; STORE_SIZE],
-    piece: &mut [u8],
-    out: &mut [u8; 163840],
-) -> Handover {
-    let opened = open(store, u32::MAX);
-    let mut handover = read_page(rt, input, opened.session, store, piece, out);
-    let mut left = rounds;
-    while left > 1 {
-        let next = handover.next;
-        let Next::End = next else {
-            return handover;
-        };
-        end(handover.session, store, out);
-        handover = read_again(rt, kept, store, piece, out);
-        left -= 1;
+    page: &mut Page,
+) -> Result<(), PageError> {
+    page.read(input, &mut drop_records)?;
+    for _ in 1..rounds {
+        page.end(&mut drop_records)?;
+        read_again(rt, kept, page)?;
     }
-    handover
-}
-
-fn byte_at(out: &[u8; 163840], i: usize) -> u8 {
-    if i < 163840 {
-        return out[i];
-    }
-    0
+    Ok(())
 }
 
 fn print_end(rt: &impl Print, closing: &[u8], byte: u8) -> io::Result<()> {
@@ -223,53 +94,27 @@ fn print_end(rt: &impl Print, closing: &[u8], byte: u8) -> io::Result<()> {
     rt.print(byte)
 }
 
-fn end_page(
-    rt: &(impl Print + Eprint),
-    session: Session,
-    store: &[u8; STORE_SIZE],
-    out: &mut [u8; 163840],
-) {
-    let ended = end(session, store, out);
-    let answer = ended.answer;
-    let session = ended.session;
-    let mut text = [0u8; 32];
-    let n = listing::put_closing(&mut text, number_of(answer), session.steps);
-    let byte = byte_at(out, session.steps as usize);
-    if let Err(error) = print_end(rt, &text[..n], byte) {
-        let _ = eprintln!(rt; "standard output: {error}");
+fn feed_page<R: Files + AllocGlobal + Print + Env>(
+    rt: &R,
+    input: &mut impl Read,
+) -> Result<(), PageError> {
+    let mut page = Page::new();
+    let rounds = rounds_asked(rt);
+    match keep_page(rt, input, rounds).map_err(PageError::Input)? {
+        Some(bytes) => read_rounds(rt, &mut &bytes[..], Some(&bytes[..]), rounds, &mut page)?,
+        None => read_rounds(rt, input, None, rounds, &mut page)?,
     }
+    let answer = page.end(&mut drop_records)?;
+    let steps = page.session.steps;
+    let mut text = [0u8; 32];
+    let n = listing::put_closing(&mut text, number_of(answer), steps);
+    let byte = page.out.get(steps as usize).copied().unwrap_or(0);
+    print_end(rt, &text[..n], byte).map_err(PageError::Output)
 }
 
 fn main(rt: HostRuntime) {
     let mut input = rt.stdin();
-    let mut store = [0u8; STORE_SIZE];
-    let mut piece = [0u8; 65536];
-    let mut out = [0u8; 163840];
-    let rounds = rounds_asked(&rt);
-    let handover = match keep_page(&rt, &mut input, rounds) {
-        Ok(Some(page)) => {
-            let mut start = &page[..];
-            read_rounds(
-                &rt,
-                &mut start,
-                Some(&page[..]),
-                rounds,
-                &mut store,
-                &mut piece,
-                &mut out,
-            )
-        }
-        Ok(None) => read_rounds(
-            &rt, &mut input, None, rounds, &mut store, &mut piece, &mut out,
-        ),
-        Err(error) => {
-            let opened = open(&mut store, u32::MAX);
-            input_failed(&rt, opened.session, error)
-        }
-    };
-    let session = handover.session;
-    let next = handover.next;
-    if let Next::End = next {
-        end_page(&rt, session, &store, &mut out);
+    if let Err(error) = feed_page(&rt, &mut input) {
+        let _ = eprintln!(rt; "{error}");
     }
 }

@@ -1,15 +1,17 @@
 -- Outcomes carried out
-use Rattle.std.specs.Prelude.{◌≡◌, ◌∷◌, ◌++◌, ◌+◌, ◌*◌, ◌≤◌}
-use Rattle.figures.specs.Prelude.{refl, sym, ap, ◌∙◌, true, false, List, [], append-nil, ℕ, add-zero, add_assoc, arith, length, length-append}
+use Rattle.std.specs.Prelude.{◌≡◌, ◌∷◌, ◌++◌, ◌+◌, ◌*◌, ◌≤◌, Result, Ok, Err, IsErr}
+use Rattle.std.proofs.Common.{refl, sym, ap, ◌∙◌, true, false, List, [], append-nil, ℕ, add-zero, add_assoc, arith, length, length-append}
 use Rattle.rules.specs.declared.Drawing.{Drawing}
 use Rattle.rules.specs.declared.Record.{Record}
 use Rattle.rules.specs.Record.{bytes_of, bytes_of_all}
+use Rattle.rules.proofs.Bools.{false_true}
 use Rattle.rules.specs.Drawing.{Outcome, NotDrawn, Draw, prepend, and_then}
 pub use Rattle.rules.specs.Statements.{Draws}
 use Rattle.rules.proofs.RecordCount.{record_length, records_length, records_append, AtMost}
 use Rattle.records.specs.Bytes.{overwrite}
 use Rattle.records.proofs.Writes.{overwrite_none, overwrite_length, overwrite_next}
-use Rattle.figures.specs.Carried.{Carried, carry, Puts}
+use Rattle.figures.specs.declared.TooManyVertices.{TooManyVertices}
+use Rattle.figures.specs.Carried.{Carried, carry, Puts, carried_of}
 
 -- No record: the place and the output are left
 pub carry_none : (e d : Drawing) (at : ℕ) (out : List ℕ) → carry (Draw e []) d at out ≡ record { refused = false; drawing = e; at = at; output = out }
@@ -36,6 +38,10 @@ pub puts_then : (rs qs : List Record) (at mid end : ℕ) (out between left : Lis
 puts_then rs qs at mid end out between left h p q =
     (q.0 ∙ ap (λ (n : ℕ). n + length (bytes_of_all qs)) p.0 ∙ add_assoc at (length (bytes_of_all rs)) (length (bytes_of_all qs)) ∙ ap (λ (n : ℕ). at + n) (sym (length-append (bytes_of_all rs) (bytes_of_all qs))) ∙ ap (λ (bs : List ℕ). at + length bs) (sym (records_append rs qs)), q.1 ∙ (λ i. overwrite (p.0 i) (bytes_of_all qs) (p.1 i)) ∙ overwrite_next (bytes_of_all rs) (bytes_of_all qs) out at h ∙ ap (λ (bs : List ℕ). overwrite at bs out) (sym (records_append rs qs)))
 
+-- No record: the state after it, the place and the output as lent
+pub none_carried : {o : Outcome} (d e : Drawing) (at : ℕ) (out : List ℕ) → o ≡ Draw e [] → record { refused = false; drawing = e; at = at; output = out } ≡ carry o d at out
+none_carried d e at out h = rw h (sym (carry_none e d at out))
+
 -- Records written are carried out
 pub puts_carried : {o : Outcome} {rs : List Record} (d e : Drawing) (at at' : ℕ) (out out' : List ℕ) → o ≡ Draw e rs → Puts rs at out at' out'
     → record { refused = false; drawing = e; at = at'; output = out' } ≡ carry o d at out
@@ -43,10 +49,11 @@ unfolding carry
 puts_carried d e at at' out out' h w =
     (λ i. record { refused = false; drawing = e; at = w.0 i; output = w.1 i }) ∙ ap (λ (x : Outcome). carry x d at out) (sym h)
 
--- Where a rule draws what was carried out, that is what the rule carries out
-pub drawn_by : {x : Carried} {e : Drawing} {rs : List Record} {o : Outcome} (d : Drawing) (at : ℕ) (out : List ℕ) → x ≡ carry (Draw e rs) e at out → o ≡ Draw e rs → x ≡ carry o d at out
-unfolding carry
-drawn_by d at out p q = p ∙ ap (λ (y : Outcome). carry y d at out) (sym q)
+-- A function that refuses by `?` answers a refusal, whatever the error
+pub carried_refused : (r : Result ℕ TooManyVertices) (at : ℕ) (d : Drawing) (out : List ℕ) → IsErr r
+    → carried_of r at d out ≡ record { refused = true; drawing = d; at = at; output = out }
+carried_refused (Ok n) at d out h = false_true h
+carried_refused (Err e) at d out h = refl
 
 -- Of two outcomes, the second from where the first ended
 pub carry_then : (e : Drawing) (rs : List Record) (k : Drawing → Outcome) (d : Drawing) (at : ℕ) (out : List ℕ)

@@ -1,9 +1,6 @@
 -- Figures that finish commands, as the rules draw them.
-use Rattle.std.specs.Prelude.{◌≤◌, ◌<◌, ◌≡◌, ◌∷◌}
-use Rattle.figures.specs.Prelude.{ℕ, refl, ◌∙◌, Bool, true, false, List, [], lt-ltb, le-ltb}
-use types.Run.{OneOf, miss}
-use denote.Enum.Declared.{tag_of}
-use Rattle.rules.specs.contracts.Role.{the_type as the-role}
+use Rattle.std.specs.Prelude.{◌≤◌, ◌<◌, ◌≡◌}
+use Rattle.std.proofs.Common.{ℕ, refl, ◌∙◌, Bool, true, false, List, [], lt-ltb, le-ltb}
 use Rattle.rules.specs.declared.Command.{Command}
 use Rattle.rules.specs.declared.Drawing.{Drawing}
 use Rattle.rules.specs.declared.Look.{Look}
@@ -19,60 +16,6 @@ use Rattle.rules.proofs.Bools.{true_false, false_true}
 use Rattle.figures.specs.declared.tracing.Figure.{Figure}
 use Rattle.figures.specs.Carried.{drawing_of}
 use Rattle.figures.specs.Tracing.{pen_at, figure_records, span_figure, arc_figure, finishes_apart, is_polygon}
-
--- The roles that finish by a figure, or by none
-abbrev unlike : List ℕ
-unlike = 0 ∷ 1 ∷ 2 ∷ 3 ∷ 4 ∷ 5 ∷ 6 ∷ 7 ∷ 8 ∷ 9 ∷ 10 ∷ 11 ∷ 17 ∷ 18 ∷ 19 ∷ []
-
-pub not_apart : (n : Role) → OneOf unlike (tag_of the-role n) → false ≡ finishes_apart n
-unfolding finishes_apart
-not_apart MoveTo k = refl
-not_apart DrawTo k = refl
-not_apart DrawBy k = refl
-not_apart Middle k = refl
-not_apart ArcEnd k = refl
-not_apart Start k = refl
-not_apart Edge k = refl
-not_apart StepSize k = refl
-not_apart LineCodes k = refl
-not_apart PolygonCodes k = refl
-not_apart Lengths k = refl
-not_apart Pel k = refl
-not_apart TextFirst k = absurd (miss unlike 12 tt k)
-not_apart TextSecond k = absurd (miss unlike 13 tt k)
-not_apart TextField k = absurd (miss unlike 14 tt k)
-not_apart TextMore k = absurd (miss unlike 15 tt k)
-not_apart Foreground k = absurd (miss unlike 16 tt k)
-not_apart Background k = refl
-not_apart Shade k = refl
-not_apart Dropped k = refl
-
--- The roles of no polygon
-abbrev unclosed : List ℕ
-unclosed = 0 ∷ 1 ∷ 2 ∷ 3 ∷ 4 ∷ 5 ∷ 7 ∷ 8 ∷ 10 ∷ 11 ∷ 12 ∷ 13 ∷ 14 ∷ 15 ∷ 16 ∷ 17 ∷ 18 ∷ 19 ∷ []
-
-pub not_polygon : (n : Role) → OneOf unclosed (tag_of the-role n) → false ≡ is_polygon n
-unfolding is_polygon
-not_polygon MoveTo k = refl
-not_polygon DrawTo k = refl
-not_polygon DrawBy k = refl
-not_polygon Middle k = refl
-not_polygon ArcEnd k = refl
-not_polygon Start k = refl
-not_polygon Edge k = absurd (miss unclosed 6 tt k)
-not_polygon StepSize k = refl
-not_polygon LineCodes k = refl
-not_polygon PolygonCodes k = absurd (miss unclosed 9 tt k)
-not_polygon Lengths k = refl
-not_polygon Pel k = refl
-not_polygon TextFirst k = refl
-not_polygon TextSecond k = refl
-not_polygon TextField k = refl
-not_polygon TextMore k = refl
-not_polygon Foreground k = refl
-not_polygon Background k = refl
-not_polygon Shade k = refl
-not_polygon Dropped k = refl
 
 -- A polygon finishes by its closing edge
 polygon_closes : (n : Role) (filled : Bool) (d : Drawing) → is_polygon n ≡ true → finish n filled d ≡ closing_edge filled d
@@ -98,17 +41,14 @@ polygon_closes Background filled d q = false_true q
 polygon_closes Shade filled d q = false_true q
 polygon_closes Dropped filled d q = false_true q
 
--- The roles but an arc's end. All of them but a polygon's finish with nothing, or with another look or text
-abbrev plain : List ℕ
-plain = 0 ∷ 1 ∷ 2 ∷ 3 ∷ 5 ∷ 6 ∷ 7 ∷ 8 ∷ 9 ∷ 10 ∷ 11 ∷ 12 ∷ 13 ∷ 14 ∷ 15 ∷ 16 ∷ 17 ∷ 18 ∷ 19 ∷ []
-
-finish_nothing : (n : Role) (filled : Bool) (d : Drawing) → OneOf plain (tag_of the-role n) → finishes_apart n ≡ false → is_polygon n ≡ false → finish n filled d ≡ Draw d []
+-- The roles but an arc's end and a polygon's finish with nothing, or with another look or text
+finish_nothing : (n : Role) (filled : Bool) (d : Drawing) → (n ≡ ArcEnd → ⊥) → finishes_apart n ≡ false → is_polygon n ≡ false → finish n filled d ≡ Draw d []
 unfolding finish finishes_apart is_polygon
 finish_nothing MoveTo filled d k h q = refl
 finish_nothing DrawTo filled d k h q = refl
 finish_nothing DrawBy filled d k h q = refl
 finish_nothing Middle filled d k h q = refl
-finish_nothing ArcEnd filled d k h q = absurd (miss plain 4 tt k)
+finish_nothing ArcEnd filled d k h q = absurd (k refl)
 finish_nothing Start filled d k h q = refl
 finish_nothing Edge filled d k h q = true_false q
 finish_nothing StepSize filled d k h q = refl
@@ -145,7 +85,7 @@ module _ (n : Role) (filled : Bool) (p : Point) (t : Text) (o : Operand) (c : Co
   unfolding closing_edge figure_records
   finish_edgeless h i k = polygon_closes n filled (drawing_of (pen_at p t o) c l m) h ∙ rw (i, le-ltb 1 c.vertices k)
 
-  pub finish_plain : OneOf plain (tag_of the-role n) → finishes_apart n ≡ false → is_polygon n ≡ false → g ≡ span_figure 0 0 p c.start
+  pub finish_plain : (n ≡ ArcEnd → ⊥) → finishes_apart n ≡ false → is_polygon n ≡ false → g ≡ span_figure 0 0 p c.start
       → finish n filled (drawing_of (pen_at p t o) c l m) ≡ Draw (drawing_of (pen_at p t o) c l m) (figure_records l g)
   unfolding figure_records
   finish_plain k h q i = rw i (finish_nothing n filled (drawing_of (pen_at p t o) c l m) k h q)

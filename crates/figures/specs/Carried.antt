@@ -1,6 +1,5 @@
 -- An outcome of the drawing rules carried out on an output
-use Rattle.std.specs.Prelude.{◌+◌, ◌≡◌}
-use Rattle.figures.specs.Prelude.{ℕ, Bool, true, false, List, length}
+use Rattle.std.specs.Prelude.{◌+◌, ◌≡◌, Result, Ok, Err, ℕ, Bool, true, false, List, length}
 use Rattle.rules.specs.declared.Pen.{Pen}
 use Rattle.rules.specs.declared.Command.{Command}
 use Rattle.rules.specs.declared.Look.{Look}
@@ -9,7 +8,7 @@ use Rattle.rules.specs.declared.Record.{Record}
 use Rattle.rules.specs.Record.{bytes_of_all}
 use Rattle.rules.specs.Drawing.{Outcome, NotDrawn, Draw}
 use Rattle.records.specs.Bytes.{overwrite}
-use Rattle.figures.specs.declared.Drawn.{Drawn}
+use Rattle.figures.specs.declared.TooManyVertices.{TooManyVertices}
 
 -- The drawing state, the output and the place after its records; a refusal leaves all three
 pub record Carried : Type 0 where
@@ -32,23 +31,15 @@ carry (Draw e rs) d at out =
 abbrev pub Puts : List Record → ℕ → List ℕ → ℕ → List ℕ → Type 0
 Puts rs at out at' out' = (at' ≡ at + length (bytes_of_all rs)) × (out' ≡ overwrite at (bytes_of_all rs) out)
 
--- The drawing state in the parts that functions take, the colour map lent beside them
+-- The drawing state of its parts
 abbrev pub drawing_of : Pen → Command → Look → List ℕ → Drawing
 drawing_of p c l m = record { pen = p; command = c; look = l; map = m }
 
--- What a function answers, with the map and the output it leaves
-abbrev pub carried_of : Drawn → List ℕ → List ℕ → Carried
-carried_of r m out =
-    record { refused = r.too_many_vertices; drawing = drawing_of r.pen r.command r.look m; at = r.at; output = out }
+-- What a function answers, with the drawing state and the output that it leaves; where it refuses, the place as it was lent
+abbrev pub carried_of : Result ℕ TooManyVertices → ℕ → Drawing → List ℕ → Carried
+carried_of (Ok n) at d out = record { refused = false; drawing = d; at = n; output = out }
+carried_of (Err e) at d out = record { refused = true; drawing = d; at = at; output = out }
 
 -- What a rule does to a drawing state, carried out
 abbrev pub carry_out : (Drawing → Outcome) → Drawing → ℕ → List ℕ → Carried
 carry_out rule d at out = carry (rule d) d at out
-
--- The answer of a function that draws by a rule which leaves the colour map, whatever that holds
-abbrev pub DrawsBy : (Drawing → Outcome) → Pen → Command → Look → ℕ → List ℕ → Drawn → List ℕ → Type 0
-DrawsBy rule p c l at out r out' = (m : List ℕ) → carried_of r m out' ≡ carry_out rule (drawing_of p c l m) at out
-
--- The same of one that writes no record, whatever stands in the output
-abbrev pub ChangesBy : (Drawing → Outcome) → Pen → Command → Look → ℕ → Drawn → Type 0
-ChangesBy rule p c l at r = (out : List ℕ) → DrawsBy rule p c l at out r out

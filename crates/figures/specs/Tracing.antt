@@ -1,6 +1,5 @@
 -- Points applied and commands finished: the figure of each, whatever the look
-use Rattle.std.specs.Prelude.{◌||◌, ◌∷◌, ◌≡◌}
-use Rattle.figures.specs.Prelude.{ℕ, Bool, true, false, List, [], ltb, eqb}
+use Rattle.std.specs.Prelude.{◌||◌, ◌∷◌, ◌≡◌, ℕ, Bool, true, false, List, [], ltb, eqb}
 use Rattle.rules.specs.declared.Command.{Command}
 use Rattle.rules.specs.declared.Drawing.{Drawing}
 use Rattle.rules.specs.declared.Look.{Look}

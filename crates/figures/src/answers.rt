@@ -1,54 +1,28 @@
-// The answers that the functions make: the state they leave, and none or one record.
+// What functions of the drawing layer do last: a record is put, and the drawing point moved. They are lent the output and a place
+// in it and answer the place after their records: the output is the caller's memory, and there is no heap for one of their own.
 ghost use Rattle.std.specs.Prelude.{◌≡◌, [], ◌∷◌, ◌+◌, ◌≤◌, length};
 ghost use Rattle.rules.specs.Numbers.{record_size};
-ghost use Rattle.rules.specs.Drawing.{Draw};
-ghost use Rattle.figures.specs.Carried.{DrawsBy, ChangesBy};
+ghost use Rattle.figures.specs.Carried.{Puts};
 ghost use Rattle.figures.specs.Tracing.{moved_if};
 
-use crate::Drawn;
 use records::put_record;
-use rules::{Command, Look, Pen, Point, RECORD_SIZE, Record};
+use rules::{Pen, Point, RECORD_SIZE, Record};
 use text::cursor::follow;
 
 // The drawing point moved, if it was.
-pub fn moved_if(moved: bool, pen: Pen, point: Point) -> Pen
-    ensures { result ≡ moved_if moved point pen }
+pub fn move_if(moved: bool, pen: &mut Pen, point: Point)
+    ensures { pen.new ≡ moved_if moved point pen.old }
 {
     if moved {
-        return follow(pen, point);
-    }
-    pen
-}
-
-pub fn no_record(pen: Pen, command: Command, look: Look, at: usize) -> Drawn
-    ensures { ChangesBy (λ d. Draw d []) pen command look at result }
-{
-    Drawn {
-        too_many_vertices: false,
-        at,
-        pen,
-        command,
-        look,
+        *pen = follow(*pen, point);
     }
 }
 
-pub fn one_record(
-    written: Record,
-    pen: Pen,
-    command: Command,
-    look: Look,
-    out: &mut [u8],
-    at: usize,
-) -> Drawn
+// Writes a record, and answers the place after it.
+pub fn put_one(written: Record, out: &mut [u8], at: usize) -> usize
     requires { at + record_size ≤ length out.old }
-    ensures { DrawsBy (λ d. Draw d (written ∷ [])) pen command look at out.old result out.new }
+    ensures { Puts (written ∷ []) at out.old result out.new }
 {
     put_record(out, at, written);
-    Drawn {
-        too_many_vertices: false,
-        at: at + RECORD_SIZE,
-        pen,
-        command,
-        look,
-    }
+    at + RECORD_SIZE
 }

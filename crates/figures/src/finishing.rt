@@ -8,7 +8,8 @@ use crate::tracing::{Figure, arc, span};
 use records::flags;
 use rules::{Command, Point, Role, Row};
 
-// The figure that finishes a command, then the drawing point, and whether it was moved.
+// The figure that finishes a command, then the drawing point, and whether it was moved. The flag is beside the point since the
+// point stands in either case.
 #[derive(Clone, Copy)]
 pub struct Finished {
     pub figure: Figure,
@@ -17,28 +18,22 @@ pub struct Finished {
 }
 
 // Whether a command finishes with another look or another text, and draws no figure: SELECT COLOUR with no operand, and TEXT.
+#[tactic(auto, unfolding(crate::specs::Tracing::finishes_apart))]
 pub fn finishes_apart(role: Role) -> bool
     ensures { result ≡ finishes_apart role }
 {
-    match role {
-        Role::TextFirst => true,
-        Role::TextSecond => true,
-        Role::TextField => true,
-        Role::TextMore => true,
-        Role::Foreground => true,
-        _ => false,
-    }
+    matches!(
+        role,
+        Role::TextFirst | Role::TextSecond | Role::TextField | Role::TextMore | Role::Foreground
+    )
 }
 
 // Whether a command draws a polygon, by the operand that is due.
+#[tactic(auto, unfolding(crate::specs::Tracing::is_polygon))]
 fn is_polygon(role: Role) -> bool
     ensures { result ≡ is_polygon role }
 {
-    match role {
-        Role::Edge => true,
-        Role::PolygonCodes => true,
-        _ => false,
-    }
+    matches!(role, Role::Edge | Role::PolygonCodes)
 }
 
 // Finishes by the operand that is due, at the drawing point p: an arc with a middle but no end is a circle, a polygon with an
@@ -49,28 +44,21 @@ pub fn finish(role: Role, row: Row, p: Point, command: Command) -> Finished
     ensures still { result.moved ≡ false → result.point ≡ p }
 {
     let start = command.start;
-    let mut figure = span(0, 0, p, start);
-    let mut moved = false;
-    let mut point = p;
-    match role {
-        Role::ArcEnd => {
-            figure = arc(row.filled, false, start, command);
-            moved = true;
-            point = start;
-        }
-        _ => {
-            if is_polygon(role) {
-                if 1 < command.vertices {
-                    figure = span(5, flags(row.filled, false, true), p, start);
-                    moved = true;
-                    point = start;
-                }
-            }
-        }
+    let mut finished = Finished {
+        figure: span(0, 0, p, start),
+        moved: false,
+        point: p,
+    };
+    if let Role::ArcEnd = role {
+        finished = Finished {
+            figure: arc(row.filled, false, start, command),
+            moved: true,
+            point: start,
+        };
+    } else if is_polygon(role) && 1 < command.vertices {
+        finished.figure = span(5, flags(row.filled, false, true), p, start);
+        finished.moved = true;
+        finished.point = start;
     }
-    Finished {
-        figure,
-        moved,
-        point,
-    }
+    finished
 }

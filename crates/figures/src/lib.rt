@@ -1,19 +1,23 @@
-// The figures that operands and the end of a command draw, and how a record is put and the state answered.
+// The figures that operands and the end of a command draw, and how a record is put.
 #![tactic(auto)]
 
 pub mod answers;
 pub mod finishing;
 pub mod tracing;
 
-use rules::{Command, Look, Pen};
+use rules::Refusal;
 
-// What a function of the drawing layer answers. It refuses one vertex too many, and then leaves the state, the output and the
-// place in it.
-#[derive(Clone, Copy)]
-pub struct Drawn {
-    pub too_many_vertices: bool,
-    pub at: usize,
-    pub pen: Pen,
-    pub command: Command,
-    pub look: Look,
+// The one refusal of the drawing layer: a vertex past the most that a polygon has. It leaves the drawing state and the output.
+#[derive(Clone, Copy, PartialEq, Eq, Debug)]
+pub struct TooManyVertices;
+
+impl From<TooManyVertices> for Refusal {
+    ghost use Rattle.rules.specs.declared.Refusal.TheVariants.{TooManyVertices};
+    ghost use Rattle.std.specs.Prelude.{◌≡◌};
+
+    ghost from_gives = { λ _ refusal. refusal ≡ TooManyVertices };
+
+    fn from(_refused: TooManyVertices) -> Refusal {
+        Refusal::TooManyVertices
+    }
 }

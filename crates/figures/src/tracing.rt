@@ -11,7 +11,8 @@ use operands::{Displaced, displace};
 use records::{Head, flags, put_words, with_kind};
 use rules::{Command, MOST_VERTICES, ORIGIN, Point, RECORD_SIZE, Role, Row};
 
-// What a record shows of an operand, beside the look. A figure of kind 0 writes no record.
+// What a record shows of an operand, beside the look. A figure of kind 0 writes no record. The kind is a number and no enum: it is
+// the byte of the record, which the table of opcodes has too.
 #[derive(Clone, Copy)]
 pub struct Figure {
     pub kind: u8,
@@ -30,32 +31,27 @@ pub struct Traced {
 }
 
 // Whether an operand is a point that is not refused, with so many vertices read.
+#[tactic(auto, unfolding(crate::specs::Tracing::is_point))]
 pub fn is_point(role: Role, vertices: u16) -> bool
     ensures { result ≡ is_point role vertices }
 {
     match role {
-        Role::MoveTo => true,
-        Role::DrawTo => true,
-        Role::DrawBy => true,
-        Role::Middle => true,
-        Role::ArcEnd => true,
-        Role::Start => true,
+        Role::MoveTo | Role::DrawTo | Role::DrawBy | Role::Middle | Role::ArcEnd | Role::Start =>
+            true,
         Role::Edge => vertices < MOST_VERTICES,
         _ => false,
     }
 }
 
 // Whether an operand is counted from the drawing point.
+#[tactic(auto, unfolding(crate::specs::Tracing::is_relative))]
 fn is_relative(role: Role) -> bool
     ensures { result ≡ is_relative role }
 {
-    match role {
-        Role::DrawBy => true,
-        Role::Middle => true,
-        Role::ArcEnd => true,
-        Role::Edge => true,
-        _ => false,
-    }
+    matches!(
+        role,
+        Role::DrawBy | Role::Middle | Role::ArcEnd | Role::Edge
+    )
 }
 
 // The point that an operand v leads to from the drawing point p.
@@ -96,14 +92,11 @@ pub fn either(a: bool, b: bool) -> bool
 pub(crate) fn arc(filled: bool, wrapped: bool, q: Point, command: Command) -> Figure
     ensures { result ≡ arc_figure filled wrapped q command }
 {
-    let flags = flags(filled, either(command.noted, wrapped), false);
-    let start = command.start;
-    let middle = command.kept;
     Figure {
         kind: 3,
-        flags,
-        p0: start,
-        p1: middle,
+        flags: flags(filled, either(command.noted, wrapped), false),
+        p0: command.start,
+        p1: command.kept,
         p2: q,
     }
 }
@@ -121,43 +114,6 @@ pub(crate) fn span(kind: u8, flags: u8, p: Point, q: Point) -> Figure
     }
 }
 
-// A command with the point that a polygon begins at.
-fn with_start(command: Command, start: Point) -> Command
-    ensures { result ≡ with_start start command.kept command.noted command }
-{
-    let mut begun = command;
-    begun.start = start;
-    begun
-}
-
-// A command with an arc's start and middle.
-fn with_middle(command: Command, start: Point, middle: Point, wrapped: bool) -> Command
-    ensures { result ≡ with_start start middle wrapped command }
-{
-    let mut begun = command;
-    begun.start = start;
-    begun.kept = middle;
-    begun.noted = wrapped;
-    begun
-}
-
-// A command with one vertex more.
-fn longer(command: Command) -> Command
-    requires { command.vertices < most_vertices }
-    ensures { result ≡ with_vertices (suc command.vertices) command }
-{
-    let mut longer = command;
-    longer.vertices = command.vertices + 1;
-    longer
-}
-
-// A rectangle moves the drawing point sideways only.
-fn beside(q: Point, p: Point) -> Point
-    ensures { result ≡ record { x = q.x; y = p.y } }
-{
-    Point { x: q.x, y: p.y }
-}
-
 // A point of an operand with this role, at the drawing point p, that leads to q; outside says that a sum for q left the range.
 pub fn trace(role: Role, row: Row, outside: bool, q: Point, p: Point, command: Command) -> Traced
     requires { is_point role command.vertices ≡ true }
@@ -167,38 +123,34 @@ pub fn trace(role: Role, row: Row, outside: bool, q: Point, p: Point, command: C
     ensures opcode { result.command.opcode ≡ command.opcode }
 {
     let flags = flags(row.filled, outside, false);
-    let mut figure = span(0, flags, p, q);
-    let mut point = q;
-    let mut after = command;
+    let mut traced = Traced {
+        figure: span(0, flags, p, q),
+        point: q,
+        command,
+    };
     match role {
         Role::MoveTo => {}
-        Role::Start => {
-            after = with_start(command, q);
-        }
+        Role::Start => traced.command.start = q,
         Role::Middle => {
-            after = with_middle(command, p, q, outside);
+            traced.command.start = p;
+            traced.command.kept = q;
+            traced.command.noted = outside;
         }
-        Role::ArcEnd => {
-            figure = arc(row.filled, outside, q, command);
-        }
+        Role::ArcEnd => traced.figure = arc(row.filled, outside, q, command),
         Role::Edge => {
-            figure = span(5, flags, p, q);
-            after = longer(command);
+            traced.figure = span(5, flags, p, q);
+            traced.command.vertices += 1;
         }
-        _ => {
-            if row.kind == 1 {
-                figure = span(1, flags, q, ORIGIN);
-            } else if row.kind == 2 {
-                figure = span(2, flags, p, q);
-            } else if row.kind == 4 {
-                figure = span(4, flags, p, q);
-                point = beside(q, p);
+        _ => match row.kind {
+            1 => traced.figure = span(1, flags, q, ORIGIN),
+            2 => traced.figure = span(2, flags, p, q),
+            4 => {
+                // A rectangle moves the drawing point sideways only.
+                traced.figure = span(4, flags, p, q);
+                traced.point.y = p.y;
             }
-        }
+            _ => {}
+        },
     }
-    Traced {
-        figure,
-        point,
-        command: after,
-    }
+    traced
 }

@@ -6,8 +6,8 @@ ghost use Rattle.rules.specs.Promises.{Opens};
 use commands::closing::new_command;
 use commands::looks::fresh_look;
 use rules::{
-    Answer, Bodies, Coding, Drawing, ORIGIN, Opened, Operand, Pen, Refusal, STORE_SIZE, Session,
-    Status, Waiting,
+    Answer, Bodies, Coding, Drawing, NO_OPERAND, NOWHERE, ORIGIN, Opened, Pen, Refusal, STORE_SIZE,
+    Session, Status, Waiting,
 };
 use settings::fresh_text;
 use store::opening::initialise;
@@ -16,44 +16,35 @@ use tables::sets::fresh_sets;
 fn fresh_drawing() -> Drawing
     ensures { result ≡ fresh_drawing }
 {
-    let pen = Pen {
-        point: ORIGIN,
-        text: fresh_text(),
-        operand: Operand {
-            bytes: [0; 8],
-            count: 0,
-        },
-    };
-    let command = new_command(0, ORIGIN);
-    let look = fresh_look(0, 0);
     Drawing {
-        pen,
-        command,
-        look,
-        map: [0u8; 48],
+        pen: Pen {
+            point: ORIGIN,
+            text: fresh_text(),
+            operand: NO_OPERAND,
+        },
+        command: new_command(0, ORIGIN),
+        look: fresh_look(0, 0),
+        map: [0; 48],
     }
 }
 
 fn fresh_session(status: Status, budget: u32) -> Session
     ensures { result ≡ fresh_session status (with_budget budget) }
 {
-    let drawing = fresh_drawing();
-    let sets = fresh_sets();
     Session {
         budget,
         steps: 0,
         status,
         bodies: Bodies {
             depth: 0,
-            cells: [0u8; 8],
-            places: [0u8; 8],
+            cursors: [NOWHERE; 8],
         },
         coding: Coding {
-            sets,
+            sets: fresh_sets(),
             waiting: Waiting::Nothing,
-            firsts: [0u8; 96],
+            firsts: [0; 96],
         },
-        drawing,
+        drawing: fresh_drawing(),
     }
 }
 

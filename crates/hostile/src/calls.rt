@@ -18,7 +18,7 @@ fn print_number(rt: &impl Print, n: u64) -> io::Result<()> {
 }
 
 fn print_byte(rt: &impl Print, n: u8) -> io::Result<()> {
-    print_number(rt, n as u64)
+    print_number(rt, u64::from(n))
 }
 
 fn print_end(rt: &impl Print) -> io::Result<()> {
@@ -38,19 +38,17 @@ pub(crate) fn feed_within(
     session: Session,
     store: &mut [u8],
     piece: &[u8],
-    room: isize,
+    room: usize,
 ) -> io::Result<Session> {
     let mut out = [0u8; 120];
-    let n = out.len().min(room.max(0) as usize);
+    let n = room.min(out.len());
     let fed = feed(session, store, piece, &mut out[..n]);
-    let answer = fed.answer;
-    let session = fed.session;
     print_case(rt, b"feed", name)?;
-    print_byte(rt, number_of(answer))?;
+    print_byte(rt, number_of(fed.answer))?;
     print_number(rt, fed.consumed as u64)?;
     print_number(rt, fed.written as u64)?;
     print_end(rt)?;
-    Ok(session)
+    Ok(fed.session)
 }
 
 pub(crate) fn feed_case(
@@ -69,18 +67,16 @@ pub(crate) fn end_within(
     name: &[u8],
     session: Session,
     store: &[u8],
-    room: isize,
+    room: usize,
 ) -> io::Result<Session> {
     let mut out = [0u8; 120];
-    let n = out.len().min(room.max(0) as usize);
+    let n = room.min(out.len());
     let ended = end(session, store, &mut out[..n]);
-    let answer = ended.answer;
-    let session = ended.session;
     print_case(rt, b"end", name)?;
-    print_byte(rt, number_of(answer))?;
+    print_byte(rt, number_of(ended.answer))?;
     print_number(rt, ended.written as u64)?;
     print_end(rt)?;
-    Ok(session)
+    Ok(ended.session)
 }
 
 pub(crate) fn end_case(
@@ -99,11 +95,10 @@ pub(crate) fn colour_case(
     address: u8,
 ) -> io::Result<()> {
     let shade = colour(session, address);
-    let values = shade_values(shade);
     print_case(rt, b"colour", name)?;
     print_byte(rt, shade_number(shade))?;
-    print_byte(rt, values[0])?;
-    print_byte(rt, values[1])?;
-    print_byte(rt, values[2])?;
+    for value in shade_values(shade) {
+        print_byte(rt, value)?;
+    }
     print_end(rt)
 }

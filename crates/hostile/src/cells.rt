@@ -8,13 +8,8 @@ use std::io;
 // A budget that ends the reading of a chain that loops.
 const BUDGET: u32 = 10;
 
-const SIXTY_FOUR: [u8; 64] = [b'A'; 64];
-
-fn set_cell(store: &mut [u8], cell: u8, next: u8, count: u8) {
+fn set_cell(store: &mut [u8; STORE_SIZE], cell: u8, next: u8, count: u8) {
     let at = 32 * (cell as usize);
-    if store.len() <= at + 1 {
-        return;
-    }
     store[at] = next;
     store[at + 1] = count;
 }
@@ -22,8 +17,7 @@ fn set_cell(store: &mut [u8], cell: u8, next: u8, count: u8) {
 // Reads a body from a place of cell 1.
 fn read_case(rt: &impl Print, name: &[u8], next: u8, count: u8, place: u8) -> io::Result<()> {
     let mut store = [0u8; STORE_SIZE];
-    let opened = open(&mut store, BUDGET);
-    let session = opened.session;
+    let session = open(&mut store, BUDGET).session;
     set_cell(&mut store, 1, next, count);
     feed_case(rt, name, with_body(session, 1, place), &mut store, b"")?;
     Ok(())
@@ -32,8 +26,7 @@ fn read_case(rt: &impl Print, name: &[u8], next: u8, count: u8, place: u8) -> io
 // Reads on from cell 1, which is read, to cell 2.
 fn move_case(rt: &impl Print, name: &[u8], count: u8) -> io::Result<()> {
     let mut store = [0u8; STORE_SIZE];
-    let opened = open(&mut store, BUDGET);
-    let session = opened.session;
+    let session = open(&mut store, BUDGET).session;
     set_cell(&mut store, 1, 2, 1);
     set_cell(&mut store, 2, 0, count);
     let stopped = feed_case(rt, name, with_body(session, 1, 1), &mut store, b"")?;
@@ -43,8 +36,7 @@ fn move_case(rt: &impl Print, name: &[u8], count: u8) -> io::Result<()> {
 
 fn end_in_body(rt: &impl Print, name: &[u8], next: u8, count: u8, place: u8) -> io::Result<()> {
     let mut store = [0u8; STORE_SIZE];
-    let opened = open(&mut store, BUDGET);
-    let session = opened.session;
+    let session = open(&mut store, BUDGET).session;
     set_cell(&mut store, 1, next, count);
     end_case(rt, name, with_body(session, 1, place), &store)?;
     Ok(())
@@ -68,10 +60,9 @@ pub(crate) fn reading(rt: &impl Print) -> io::Result<()> {
 }
 
 // Reads a CAN in the last of eight bodies. The cell of the others has a count that no step could read.
-fn cancel_case(rt: &impl Print, name: &[u8], room: isize) -> io::Result<()> {
+fn cancel_case(rt: &impl Print, name: &[u8], room: usize) -> io::Result<()> {
     let mut store = [0u8; STORE_SIZE];
-    let opened = open(&mut store, BUDGET);
-    let session = opened.session;
+    let session = open(&mut store, BUDGET).session;
     set_cell(&mut store, 1, 0, 2);
     store[34] = CAN;
     set_cell(&mut store, 2, 1, 31);
@@ -83,8 +74,7 @@ fn cancel_case(rt: &impl Print, name: &[u8], room: isize) -> io::Result<()> {
 // Reads a CAN of the page over eight bodies that have none left.
 fn cancel_spent(rt: &impl Print) -> io::Result<()> {
     let mut store = [0u8; STORE_SIZE];
-    let opened = open(&mut store, BUDGET);
-    let session = opened.session;
+    let session = open(&mut store, BUDGET).session;
     feed_case(
         rt,
         b"cancel-spent",
@@ -104,8 +94,7 @@ pub(crate) fn cancelling(rt: &impl Print) -> io::Result<()> {
 // Frees the body of 2/1, which starts in cell 1 and goes on in cell 2.
 fn free_case(rt: &impl Print, name: &[u8], first: u8, count: u8, second: u8) -> io::Result<()> {
     let mut store = [0u8; STORE_SIZE];
-    let opened = open(&mut store, BUDGET);
-    let session = opened.session;
+    let session = open(&mut store, BUDGET).session;
     set_cell(&mut store, 1, first, count);
     set_cell(&mut store, 2, second, count);
     let stopped = feed_case(rt, name, with_first(session, 1), &mut store, b"\x1b@!")?;
@@ -126,8 +115,7 @@ pub(crate) fn freeing(rt: &impl Print) -> io::Result<()> {
 // Stores bytes in a definition whose last cell is cell 1.
 fn fill_case(rt: &impl Print, name: &[u8], free: u8, count: u8, piece: &[u8]) -> io::Result<()> {
     let mut store = [0u8; STORE_SIZE];
-    let opened = open(&mut store, BUDGET);
-    let session = opened.session;
+    let session = open(&mut store, BUDGET).session;
     set_cell(&mut store, 0, free, 0);
     set_cell(&mut store, 1, 0, count);
     let definition = Definition { name: 33, last: 1 };
@@ -148,20 +136,18 @@ fn fill_case(rt: &impl Print, name: &[u8], free: u8, count: u8, piece: &[u8]) ->
     Ok(())
 }
 
-// Defines a body where the free chain leads from cell 1 to cell 1.
+// Defines a body of 64 bytes where the free chain leads from cell 1 to cell 1.
 fn free_chain_loop(rt: &impl Print) -> io::Result<()> {
     let mut store = [0u8; STORE_SIZE];
-    let opened = open(&mut store, u32::MAX);
-    let session = opened.session;
+    let session = open(&mut store, u32::MAX).session;
     set_cell(&mut store, 1, 1, 0);
     let definition = Definition { name: 33, last: 0 };
-    let piece = SIXTY_FOUR;
     feed_case(
         rt,
         b"free-chain-loop",
         with_waiting(session, Waiting::Body(definition)),
         &mut store,
-        &piece,
+        &[b'A'; 64],
     )?;
     Ok(())
 }

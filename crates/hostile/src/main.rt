@@ -27,17 +27,13 @@ const SELECT_COLOUR: u8 = 62;
 
 fn fresh() -> Session {
     let mut store = [0u8; STORE_SIZE];
-    let opened = open(&mut store, u32::MAX);
-    opened.session
+    open(&mut store, u32::MAX).session
 }
 
 fn ended() -> Session {
     let mut store = [0u8; STORE_SIZE];
-    let opened = open(&mut store, u32::MAX);
-    let session = opened.session;
-    let mut out = [0u8; 120];
-    let ended = end(session, &store, &mut out);
-    ended.session
+    let session = open(&mut store, u32::MAX).session;
+    end(session, &store, &mut [0u8; 120]).session
 }
 
 fn feed_stopped(rt: &impl Print, name: &[u8], session: Session) -> io::Result<()> {
@@ -55,10 +51,8 @@ fn lend(rt: &impl Print, name: &[u8], store: &mut [u8]) -> io::Result<()> {
 
 fn store_case(rt: &impl Print, name: &[u8], store: &mut [u8]) -> io::Result<()> {
     let opened = open(store, u32::MAX);
-    let answer = opened.answer;
-    print_open(rt, name, answer)?;
-    let stopped = opened.session;
-    feed_stopped(rt, name, stopped)?;
+    print_open(rt, name, opened.answer)?;
+    feed_stopped(rt, name, opened.session)?;
     lend(rt, name, store)
 }
 
@@ -160,7 +154,7 @@ fn steps_over_budget(rt: &impl Print, session: Session) -> io::Result<()> {
     Ok(())
 }
 
-fn buffer_case(rt: &impl Print, name: &[u8], session: Session, room: isize) -> io::Result<()> {
+fn buffer_case(rt: &impl Print, name: &[u8], session: Session, room: usize) -> io::Result<()> {
     let mut store = [0u8; STORE_SIZE];
     open(&mut store, u32::MAX);
     feed_within(rt, name, session, &mut store, b"A", room)?;
@@ -199,8 +193,7 @@ fn colours(rt: &impl Print, session: Session) -> io::Result<()> {
 fn main(rt: HostRuntime) -> io::Result<()> {
     let rt = &rt;
     let mut store = [0u8; STORE_SIZE];
-    let opened = open(&mut store, 5);
-    let session = opened.session;
+    let session = open(&mut store, 5).session;
     stores(rt)?;
     drawing_fields(rt, session)?;
     text_fields(rt, session)?;

@@ -195,6 +195,10 @@ typed_on k g bytes from at first p₀ p₁ n p q cursor field out before least m
     ∙ (λ i. overwrite (at + 40 * n) (head_bytes g ++ words (sym ce i) ++ words (sym fe i) ++ words origin ++ words (t.pel_is i)) out)
     ∙ ap (λ (bs : List ℕ). overwrite (at + 40 * n) bs out) (record_bytes (record_of l 6 0 (set_number x) b u.cursor u.field origin) g e))
 
+-- The byte at a place, of a run over all the bytes
+pub code_at : (bytes : List ℕ) (n : ℕ) → get_or bytes n 0 ≡ get_or bytes (0 + n) 0
+code_at bytes n = ap (λ (i : ℕ). get_or bytes i 0) (omega arith)
+
 -- The text goes on alone
 
 -- The pen is aligned with the last text alone
@@ -236,30 +240,32 @@ module _ (k : Common) (bytes : List ℕ) (from at : ℕ) where
       (b.0, λ first p₀ p₁ r. b.1 first p₀ p₁ (a.1 first p₀ p₁ r))
 
   -- A character more
-  pub goes_on : (g : Head) (n : ℕ) (v w : Bool) (t u : Text) (cursor field : Point) (out out' : List ℕ)
-      → 32 ≤ get_or bytes (from + n) 0
-      → get_or bytes (from + n) 0 ≤ k.last
+  pub goes_on : (g : Head) (n b : ℕ) (v w : Bool) (t u : Text) (cursor field : Point) (out out' : List ℕ)
+      → b ≡ get_or bytes (from + n) 0
+      → IsCharacter k b
       → at + (40 * n + room_for_step) ≤ length out
-      → head_bytes g ≡ set (head_bytes k.head) 7 (get_or bytes (from + n) 0)
+      → head_bytes g ≡ set (head_bytes k.head) 7 b
       → t.cursor ≡ cursor
       → t.field ≡ field
       → out' ≡ overwrite (at + 40 * n) (head_bytes g ++ words cursor ++ words field ++ words origin ++ words k.pel) out
-      → TypedOn k.set (get_or bytes (from + n) 0) v t w u
+      → TypedOn k.set b v t w u
       → Goes k bytes from at n v t out (n + 1) w u out'
-  goes_on g n v w t u cursor field out out' least most room coded ce fe wrote f p e =
-      let a = f p e in
-      (a.0, λ first p₀ p₁ r. typed_on k g bytes from at first p₀ p₁ n (pen_of v t p) (pen_of w u p) cursor field out r least most room coded (ap (λ (z : Text). z.cursor) e ∙ ce) (ap (λ (z : Text). z.field) e ∙ fe) wrote a.1)
+  goes_on g n b v w t u cursor field out out' here is room coded ce fe wrote f p e =
+      let a = subst (λ (z : ℕ). TypedOn k.set z v t w u) here f p e in
+      let is_here = subst (IsCharacter k) here is in
+      let coded_here = subst (λ (z : ℕ). head_bytes g ≡ set (head_bytes k.head) 7 z) here coded in
+      (a.0, λ first p₀ p₁ r. typed_on k g bytes from at first p₀ p₁ n (pen_of v t p) (pen_of w u p) cursor field out r is_here.0 is_here.1 room coded_here (ap (λ (z : Text). z.cursor) e ∙ ce) (ap (λ (z : Text). z.field) e ∙ fe) wrote a.1)
 
   -- A format effector more
-  pub format_on : (f : Effector) (n : ℕ) (p q : Pen) (out out' : List ℕ)
-      → IsFormat f (get_or bytes (from + n) 0)
+  pub format_on : (f : Effector) (n b : ℕ) (p q : Pen) (out out' : List ℕ)
+      → b ≡ get_or bytes (from + n) 0
+      → IsFormat f b
       → at + (40 * n + room_for_step) ≤ length out
-      → ((l : Look) → Inks k.ink k.pel l → out' ≡ overwrite (at + 40 * n) (bytes_of (mark l 7 0 (get_or bytes (from + n) 0) p.point)) out)
+      → ((l : Look) → Inks k.ink k.pel l → out' ≡ overwrite (at + 40 * n) (bytes_of (mark l 7 0 b p.point)) out)
       → q ≡ formatted f p
       → Puts k bytes from at n p out (n + 1) q out'
-  format_on f n p q out out' is room wrote e first p₀ p₁ r =
-      let b = get_or bytes (from + n) 0 in
-      step_on k bytes from at first p₀ p₁ n p q out (Format f b) (formatted f) (control_record b) r (λ l t. format_acts (Characters k.set) f b is.0 is.1) (format_marks f b) (format_rested f p ∙ ap rested (sym e)) room (λ l m t. wrote l t.ink_is)
+  format_on f n b p q out out' here is room wrote e first p₀ p₁ r =
+      step_on k bytes from at first p₀ p₁ n p q out (Format f b) (formatted f) (control_record b) r (λ l t. subst (λ (z : ℕ). ActsAs (Characters k.set) z (Format f b)) here (format_acts (Characters k.set) f b is.0 is.1)) (format_marks f b) (format_rested f p ∙ ap rested (sym e)) room (λ l m t. wrote l t.ink_is)
 
   pub puts_none : (n : ℕ) (p : Pen) (out : List ℕ) → Puts k bytes from at n p out n p out
   puts_none n p out first p₀ p₁ r = r
@@ -315,24 +321,24 @@ module _ (k : Common) (bytes : List ℕ) (from at : ℕ) (t : Text) (step c₀ c
   pub line_none : OnLine k bytes from at t step c₀ count first count c₀ first
   line_none = record { done = 0; reached = omega arith; place = refl; goes = λ v. goes_none k bytes from at count v t first }
 
-  pub line_on : (g : Head) (field : Point) (n c c' end : ℕ) (out : List ℕ) {out' : List ℕ} → LineFrom t field c₀ (end - count) step
+  pub line_on : (g : Head) (field : Point) (n b c c' end : ℕ) (out : List ℕ) {out' : List ℕ} → LineFrom t field c₀ (end - count) step
       → OnLine k bytes from at t step c₀ count first n c out
       → n < end → c' ≡ (c + step) % 2 ^ 64
-      → IsCharacter k (get_or bytes (from + n) 0) × (spaces k.set (get_or bytes (from + n) 0) ≡ true)
+      → b ≡ get_or bytes (from + n) 0
+      → IsCharacter k b × (spaces k.set b ≡ true)
       → at + (40 * n + room_for_step) ≤ length out
-      → head_bytes g ≡ set (head_bytes k.head) 7 (get_or bytes (from + n) 0)
+      → head_bytes g ≡ set (head_bytes k.head) 7 b
       → (q : Point) → q ≡ unpacked c
       → out' ≡ overwrite (at + 40 * n) (head_bytes g ++ words q ++ words field ++ words origin ++ words k.pel) out
       → OnLine k bytes from at t step c₀ count first (n + 1) c' out'
-  line_on g field n c c' end out {out'} s o below e is room coded q qe wrote =
+  line_on g field n b c c' end out {out'} s o below e at_place is room coded q qe wrote =
       let i = o.done in
       let far : i < end - count = omega (arith, o.reached) in
       let u : Text = with_cursor (unpacked c') NoPair t in
-      let b = get_or bytes (from + n) 0 in
       let a = line_advances i t step (end - count) c c' c₀ far s.3 s.1 o.place s.0 e in
       let here = line_cursor i t step c c₀ s.1 o.place ∙ sym qe in
       let one : (v : Bool) → Goes k bytes from at n (line_moved i v) (line_text i c t) out (n + 1) true u out'
-      = λ v. goes_on k bytes from at g n (line_moved i v) true (line_text i c t) u q field out out' is.0.0 is.0.1 room coded here (line_field i c t ∙ s.2) wrote (type_spacing k.set b (line_moved i v) (line_text i c t) u is.1 a) in
+      = λ v. goes_on k bytes from at g n b (line_moved i v) true (line_text i c t) u q field out out' at_place is.0 room coded here (line_field i c t ∙ s.2) wrote (type_spacing k.set b (line_moved i v) (line_text i c t) u is.1 a) in
       record {
         done = suc i;
         reached = omega (arith, o.reached);

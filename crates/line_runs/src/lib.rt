@@ -1,11 +1,12 @@
 // Characters on one line.
 #![tactic(auto)]
 
-ghost use Rattle.std.specs.Prelude.{◌≡◌, ◌+◌, ◌-◌, ◌≤◌, Bool, true, false, length};
+ghost use Rattle.std.specs.Prelude.{◌≡◌, ◌-◌, ◌≤◌, Bool, true, false, length};
 ghost use Rattle.rules.specs.Text.{spaces};
 ghost use Rattle.text_lines.specs.Line.{Straight};
 ghost use Rattle.line_runs.specs.Characters.{last_character, IsCharacter, Room, IsCommon, Goes, line_moved, line_text};
 
+use drawing_runs::Taken;
 use moves::characters::spaces;
 use records::{Head, head_of, put_words, set_number, with_code};
 use rules::{Look, ORIGIN, Point, RECORD_SIZE, Repertoire, Text};
@@ -39,86 +40,60 @@ pub struct Common {
 pub fn common_of(set: Repertoire, look: Look) -> Common
     ensures { (result.set ≡ set) × IsCommon result look }
 {
-    let last = last_character(set);
-    let ink = head_of(look, 0, 0, 0, 0);
-    let head = head_of(look, 6, 0, set_number(set), 0);
-    let domain = look.domain;
-    let pel = domain.pel;
     Common {
         set,
-        last,
-        ink,
-        head,
-        pel,
+        last: last_character(set),
+        ink: head_of(look, 0, 0, 0, 0),
+        head: head_of(look, 6, 0, set_number(set), 0),
+        pel: look.domain.pel,
     }
 }
 
-// A text that goes on alone: where the cursor was moved, the drawing point is yet to be aligned with it.
+// A text that goes on alone: where the cursor was moved, the drawing point is yet to be aligned with it. The text stands in either case.
 #[derive(Clone, Copy)]
 pub struct Hand {
     pub moved: bool,
     pub text: Text,
 }
 
-// How many characters were put, and the text after them.
-#[derive(Clone, Copy)]
-pub struct Put {
-    pub count: usize,
-    pub hand: Hand,
-}
-
-// How many characters were put on a line, and the packed cursor after them.
-#[derive(Clone, Copy)]
-struct Lined {
-    count: usize,
-    cursor: u64,
-}
-
 // Whether a byte is a character of the set.
 pub fn is_character(common: Common, code: u8) -> bool
     ensures { (result ≡ true → IsCharacter common code) × (result ≡ false → IsCharacter common code → ⊥) }
 {
-    if code < 32 {
-        return false;
-    }
-    code <= common.last
+    32 <= code && code <= common.last
 }
 
 // Whether a byte is a character that advances the cursor.
 fn is_spacing(common: Common, code: u8) -> bool
     ensures { result ≡ true → IsCharacter common code × (spaces common.set code ≡ true) }
 {
-    let set = common.set;
-    if !is_character(common, code) {
-        return false;
-    }
-    spaces(set, code)
+    is_character(common, code) && spaces(common.set, code)
 }
 
-// Puts characters that stand on a line: each cursor is the last and a step.
+// Puts characters that stand on a line: each cursor is the last and a step. The packed cursor after them is left.
 fn put_line(
     common: Common,
     text: Text,
     step: u64,
     bytes: &[u8],
-    from: usize,
     count: usize,
     end: usize,
     out: &mut [u8],
     at: usize,
-) -> Lined
-    requires { (count ≤ end) × (from + end ≤ length bytes.now) × Room at end out.old × Straight text (end - count) step }
-    ensures line { (v : Bool) → Goes common bytes.now from at count v text out.old
-        result.count (line_moved (result.count - count) v) (line_text (result.count - count) result.cursor text) out.new }
+) -> Taken<u64>
+    requires { (count ≤ end) × (end ≤ length bytes.now) × Room at end out.old × Straight text (end - count) step }
+    ensures line { (v : Bool) → Goes common bytes.now 0 at count v text out.old
+        result.count (line_moved (result.count - count) v) (line_text (result.count - count) result.left text) out.new }
     ensures most { (count ≤ result.count) × (result.count ≤ end) }
 {
-    let field = text.field;
-    let mut n = count;
     let mut cursor = packed(text.cursor);
-    while n < end {
-        let code = bytes[from + n];
+    for n in count..end {
+        let code = bytes[n];
         if !is_spacing(common, code) {
-            return Lined { count: n, cursor };
+            return Taken {
+                count: n,
+                left: cursor,
+            };
         }
         let place = at + RECORD_SIZE * n;
         put_words(
@@ -126,26 +101,16 @@ fn put_line(
             place,
             with_code(common.head, code),
             unpacked(cursor),
-            field,
+            text.field,
             ORIGIN,
             common.pel,
         );
-        cursor = std::num::wrapping_add_u64(cursor, step);
-        n += 1;
+        cursor = cursor.wrapping_add(step);
     }
-    Lined { count: n, cursor }
-}
-
-// The place a number of characters further, or the end.
-fn not_past(count: usize, most: u64, end: usize) -> usize
-    requires { count ≤ end }
-    ensures { (count ≤ result) × (result ≤ end) × (result - count ≤ most) }
-{
-    let left = end - count;
-    if left as u64 <= most {
-        return end;
+    Taken {
+        count: end,
+        left: cursor,
     }
-    count + most as usize
 }
 
 // Puts the characters up to the end of the line that the cursor is on.
@@ -153,27 +118,33 @@ pub fn put_rest(
     common: Common,
     hand: Hand,
     bytes: &[u8],
-    from: usize,
     count: usize,
-    most: usize,
     out: &mut [u8],
     at: usize,
-) -> Put
-    requires { (count ≤ most) × (from + most ≤ length bytes.now) × Room at most out.old }
-    ensures goes { Goes common bytes.now from at count hand.moved hand.text out.old
-        result.count result.hand.moved result.hand.text out.new }
-    ensures most { (count ≤ result.count) × (result.count ≤ most) }
+) -> Taken<Hand>
+    requires { (count ≤ length bytes.now) × Room at (length bytes.now) out.old }
+    ensures goes { Goes common bytes.now 0 at count hand.moved hand.text out.old
+        result.count result.left.moved result.left.text out.new }
+    ensures most { (count ≤ result.count) × (result.count ≤ length bytes.now) }
 {
-    let text = hand.text;
-    let line = line_of(text);
-    let end = not_past(count, line.most, most);
-    let lined = put_line(common, text, line.step, bytes, from, count, end, out, at);
+    let line = line_of(hand.text);
+    let on_line = ((bytes.len() - count) as u64).min(line.most) as usize;
+    let lined = put_line(
+        common,
+        hand.text,
+        line.step,
+        bytes,
+        count,
+        count + on_line,
+        out,
+        at,
+    );
     if lined.count == count {
-        return Put { count, hand };
+        return Taken { count, left: hand };
     }
-    let text = with_cursor(text, unpacked(lined.cursor));
-    Put {
+    let text = with_cursor(hand.text, unpacked(lined.left));
+    Taken {
         count: lined.count,
-        hand: Hand { moved: true, text },
+        left: Hand { moved: true, text },
     }
 }

@@ -1,5 +1,6 @@
 // Records as lines of text: the fields in order as decimal numbers, with a blank between them.
-// What puts text at a place answers the place after it.
+// What puts text at a place answers the place after it. Numbers are put by crates/digits, not by std's formatting; see there
+// why.
 #![tactic(auto)]
 
 ghost use Rattle.std.specs.Prelude.{◌≡◌, ◌+◌, ◌*◌, ◌/◌, ◌≤◌, ◌<◌, min, length};
@@ -23,21 +24,12 @@ pub fn put(text: &mut [u8], at: usize, bytes: &[u8]) -> usize
     end
 }
 
-fn wide(byte: u8) -> u32
-    ensures { (result ≡ byte) × (result < 256) }
-{
-    byte as u32
-}
-
+#[tactic(auto, unfolding(crate::specs::Text::word_at))]
 fn word_at(bytes: &[u8], at: usize) -> u32
     requires { at + 4 ≤ length bytes.now }
     ensures { result ≡ word_at bytes.now at }
 {
-    let b0 = wide(bytes[at]);
-    let b1 = wide(bytes[at + 1]);
-    let b2 = wide(bytes[at + 2]);
-    let b3 = wide(bytes[at + 3]);
-    b0 + 256 * b1 + 65536 * b2 + 16777216 * b3
+    u32::from_le_bytes([bytes[at], bytes[at + 1], bytes[at + 2], bytes[at + 3]])
 }
 
 // The fields that are bytes, each with the blank after it.
@@ -47,15 +39,14 @@ fn put_head(text: &mut [u8], at: usize, bytes: &[u8]) -> usize
     ensures upper_bound { result ≤ at + 32 }
 {
     let mut to = at;
-    let mut i: usize = 0;
-    while i < HEAD_FIELDS {
-        let end = put_short(text, to, wide(bytes[i]));
+    for i in 0..HEAD_FIELDS {
+        let end = put_short(text, to, u32::from(bytes[i]));
         to = put_byte(text, end, b' ');
-        i += 1;
     }
     to
 }
 
+#[tactic(auto, unfolding(crate::specs::Text::separator))]
 fn separator(i: usize) -> u8
     ensures { result ≡ separator i }
 {
@@ -68,19 +59,11 @@ fn put_line(text: &mut [u8], at: usize, bytes: &[u8]) -> usize
     ensures upper_bound { result ≤ at + 128 }
 {
     let mut to = put_head(text, at, bytes);
-    let mut i: usize = HEAD_FIELDS;
-    while i < FIELDS {
+    for i in HEAD_FIELDS..FIELDS {
         let end = put_signed(text, to, word_at(bytes, 4 * i - 24));
         to = put_byte(text, end, separator(i));
-        i += 1;
     }
     to
-}
-
-pub fn least(a: usize, b: usize) -> usize
-    ensures { result ≡ min a b }
-{
-    if a < b { a } else { b }
 }
 
 // The lines of the records that were written to out. A line has at most 128 bytes: eight fields of at most three, eight of at
@@ -91,13 +74,11 @@ pub fn put_lines(text: &mut [u8], out: &[u8], written: usize) -> usize
         text.new result }
     ensures prefix_len { IsPrefixLen result text.new }
 {
-    let records = least(written, out.len()) / RECORD_SIZE;
+    let records = written.min(out.len()) / RECORD_SIZE;
     let mut to = 0;
-    let mut i: usize = 0;
-    while i < records {
+    for i in 0..records {
         let from = RECORD_SIZE * i;
         to = put_line(text, to, &out[from..from + RECORD_SIZE]);
-        i += 1;
     }
     to
 }
@@ -109,7 +90,7 @@ pub fn put_closing(text: &mut [u8], number: u8, steps: u32) -> usize
     ensures prefix_len { IsPrefixLen result text.new }
 {
     let word = put(text, 0, b"end ");
-    let first = put_number(text, word, wide(number));
+    let first = put_number(text, word, u32::from(number));
     let second = put(text, first, b" ");
     let end = put_number(text, second, steps);
     put(text, end, b"\n")

@@ -2,7 +2,7 @@
 #![tactic(auto)]
 
 ghost use Rattle.std.specs.Prelude.{◌≡◌, ◌-◌};
-ghost use Rattle.rules.specs.Drawing.{rows, row_of, nth, role_of, advanced, due_after, length_of};
+ghost use Rattle.rules.specs.Drawing.{rows, row_of, nth, role_of, due_after, length_of};
 
 use rules::{Domain, Due, Pattern, Role, Row};
 
@@ -13,6 +13,7 @@ const OTHER: Row = Row {
     filled: false,
 };
 
+// The rows are literal, since a constant calls no function.
 const ROWS: [Row; 32] = [
     // 2/0 RESET
     OTHER,
@@ -177,6 +178,7 @@ const ROWS: [Row; 32] = [
 ];
 
 // Row for row, the table is that of the rules.
+#[tactic(auto, unfolding(rules::specs::Drawing::rows))]
 pub fn rows() -> [Row; 32]
     ensures { result ≡ rows }
 {
@@ -187,13 +189,11 @@ pub fn rows() -> [Row; 32]
 pub fn row_place(opcode: u8) -> usize
     ensures { result ≡ opcode - 32 }
 {
-    if opcode < 32 {
-        return 0;
-    }
-    (opcode - 32) as usize
+    usize::from(opcode.saturating_sub(32))
 }
 
 // The row of the open command. Opcode 0, none open, has the row of a skipped one.
+#[tactic(auto, unfolding(rules::specs::Drawing::row_of, rules::specs::Drawing::rows))]
 pub fn row_of(opcode: u8) -> Row
     ensures { result ≡ row_of opcode }
 {
@@ -203,8 +203,8 @@ pub fn row_of(opcode: u8) -> Row
     }
 }
 
-// The role of the operand that is due, of those that a pattern lists.
-fn nth_role(n: Due, first: Role, second: Role, third: Role, past: Role) -> Role
+// The one of four things that stands for the operand that is due.
+fn nth<T: Copy>(n: Due, first: T, second: T, third: T, past: T) -> T
     ensures { result ≡ nth n first second third past }
 {
     match n {
@@ -215,66 +215,40 @@ fn nth_role(n: Due, first: Role, second: Role, third: Role, past: Role) -> Role
     }
 }
 
-// What the operands of a pattern are for, in their order.
-#[derive(Clone, Copy)]
-struct Roles {
-    first: Role,
-    second: Role,
-    third: Role,
-    past: Role,
-}
-
-fn four_roles(first: Role, second: Role, third: Role, past: Role) -> Roles
-    ensures { result ≡ record { first = first; second = second; third = third; past = past } }
-{
-    Roles {
-        first,
-        second,
-        third,
-        past,
-    }
-}
-
-// The first operand, and all others alike.
-fn then_all(first: Role, later: Role) -> Roles
-    ensures { result ≡ record { first = first; second = later; third = later; past = later } }
-{
-    four_roles(first, later, later, later)
-}
-
-fn roles_of(p: Pattern) -> Roles
-    ensures { (result.first ≡ role_of p Due.First) × (result.second ≡ role_of p Due.Second) × (result.third ≡ role_of p Due.Third)
-        × (result.past ≡ role_of p Due.Past) }
+// What the operands of a pattern are for, in their order; the last role is that of all past the third.
+#[tactic(auto, unfolding(rules::specs::Drawing::role_of))]
+fn roles_of(p: Pattern) -> (Role, Role, Role, Role)
+    ensures { result ≡ (role_of p Due.First, role_of p Due.Second, role_of p Due.Third, role_of p Due.Past) }
 {
     match p {
         Pattern::A => then_all(Role::DrawTo, Role::DrawTo),
         Pattern::D => then_all(Role::DrawBy, Role::DrawBy),
         Pattern::AA => then_all(Role::MoveTo, Role::DrawTo),
         Pattern::AD => then_all(Role::MoveTo, Role::DrawBy),
-        Pattern::ArcDD => four_roles(Role::Middle, Role::ArcEnd, Role::Dropped, Role::Dropped),
-        Pattern::ArcADD => four_roles(Role::MoveTo, Role::Middle, Role::ArcEnd, Role::Dropped),
+        Pattern::ArcDD => (Role::Middle, Role::ArcEnd, Role::Dropped, Role::Dropped),
+        Pattern::ArcADD => (Role::MoveTo, Role::Middle, Role::ArcEnd, Role::Dropped),
         Pattern::PolygonD => then_all(Role::Edge, Role::Edge),
         Pattern::PolygonAD => then_all(Role::Start, Role::Edge),
-        Pattern::IncrementalLine => four_roles(
+        Pattern::IncrementalLine => (
             Role::StepSize,
             Role::LineCodes,
             Role::LineCodes,
             Role::Dropped,
         ),
-        Pattern::IncrementalPolygon => four_roles(
+        Pattern::IncrementalPolygon => (
             Role::StepSize,
             Role::PolygonCodes,
             Role::PolygonCodes,
             Role::Dropped,
         ),
-        Pattern::Domain => four_roles(Role::Lengths, Role::Pel, Role::Dropped, Role::Dropped),
-        Pattern::Text => four_roles(
+        Pattern::Domain => (Role::Lengths, Role::Pel, Role::Dropped, Role::Dropped),
+        Pattern::Text => (
             Role::TextFirst,
             Role::TextSecond,
             Role::TextField,
             Role::TextMore,
         ),
-        Pattern::SelectColour => four_roles(
+        Pattern::SelectColour => (
             Role::Foreground,
             Role::Background,
             Role::Dropped,
@@ -285,68 +259,42 @@ fn roles_of(p: Pattern) -> Roles
     }
 }
 
+// The first operand, and all others alike.
+fn then_all(first: Role, later: Role) -> (Role, Role, Role, Role)
+    ensures { result ≡ (first, later, later, later) }
+{
+    (first, later, later, later)
+}
+
 // The role of the operand that is due. All four are looked up at once, which makes of both matches one lookup each.
 pub fn role_of(p: Pattern, n: Due) -> Role
     ensures { result ≡ role_of p n }
 {
-    let roles = roles_of(p);
-    let first = roles.first;
-    let second = roles.second;
-    let third = roles.third;
-    let past = roles.past;
-    nth_role(n, first, second, third, past)
+    let (first, second, third, past) = roles_of(p);
+    nth(n, first, second, third, past)
 }
 
-// The operand that is due next where a pattern does not repeat.
-fn advance(n: Due) -> Due
-    ensures { result ≡ advanced n }
-{
-    match n {
-        Due::First => Due::Second,
-        Due::Second => Due::Third,
-        Due::Third => Due::Past,
-        Due::Past => Due::Past,
-    }
-}
-
-// The same where a pattern of two operands repeats.
-fn alternate(n: Due) -> Due
-    ensures { result ≡ due_after Pattern.AA n }
-{
-    match n {
-        Due::First => Due::Second,
-        Due::Second => Due::First,
-        Due::Third => Due::First,
-        Due::Past => Due::First,
-    }
-}
-
+// The operand that is due next. Patterns of points repeat.
+#[tactic(auto, unfolding(rules::specs::Drawing::due_after))]
 pub fn due_after(p: Pattern, n: Due) -> Due
     ensures { result ≡ due_after p n }
 {
     match p {
-        Pattern::A => Due::First,
-        Pattern::D => Due::First,
-        Pattern::AA => alternate(n),
-        Pattern::AD => alternate(n),
-        _ => advance(n),
+        Pattern::A | Pattern::D => Due::First,
+        Pattern::AA | Pattern::AD => nth(n, Due::Second, Due::First, Due::First, Due::First),
+        _ => nth(n, Due::Second, Due::Third, Due::Past, Due::Past),
     }
 }
 
 // The bytes of an operand; 0 where data makes none, being codes or dropped.
+#[tactic(auto, unfolding(rules::specs::Drawing::length_of))]
 pub fn length_of(r: Role, d: Domain) -> u8
     ensures { result ≡ length_of r d }
 {
     match r {
-        Role::LineCodes => 0,
-        Role::PolygonCodes => 0,
-        Role::Lengths => 1,
-        Role::TextFirst => 1,
-        Role::TextSecond => 1,
-        Role::TextMore => 0,
-        Role::Foreground => d.single,
-        Role::Background => d.single,
-        Role::Dropped => 0,
+        Role::LineCodes | Role::PolygonCodes | Role::TextMore | Role::Dropped => 0,
+        Role::Lengths | Role::TextFirst | Role::TextSecond => 1,
+        Role::Foreground | Role::Background => d.single,
         _ => d.multi,
     }
 }

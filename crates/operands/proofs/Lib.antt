@@ -1,3 +1,4 @@
 pub mod Sums
+pub mod Signs
 pub mod Operands
 pub mod WholeLaws

@@ -1,11 +1,11 @@
 -- An operand's point byte by byte, and the parts of its bytes that addresses, colours and lengths are
 use Rattle.std.specs.Prelude.{◌≡◌, ◌∷◌, ◌++◌, ◌+◌, ◌*◌, ◌-◌, ◌/◌, ◌%◌, ◌^◌, ◌<◌, ◌≤◌}
-use Rattle.operands.specs.Prelude.{refl, sym, ◌∙◌, Bool, true, false, List, [], append-nil, ℕ, zero, suc, pow_mono, ap, add-zero, div-one, mod-eq_of_lt, add-one, arith, eqb, length, get_or, take, replicate, take-suc, length-take-le}
+use Rattle.operands.specs.Prelude.{refl, sym, ◌∙◌, Bool, true, false, List, [], append-nil, ℕ, zero, suc, pow_mono, add-zero, div-one, mod-eq_of_lt, add-one, arith, eqb, length, get_or, take, replicate, take-suc, length-take-le}
 use Rattle.rules.specs.declared.Point.{Point}
 use Rattle.rules.specs.Operands.{bit, x_bits, y_bits, green, red, blue, green_bits, red_bits, blue_bits, bits_of, from_top, point, address, wrapped_sum}
 use Rattle.rules.specs.Drawing.{domain_of}
 use Rattle.operands.specs.declared.Hue.{Hue}
-use Rattle.operands.specs.Steps.{joined, with_tuple, with_tuples}
+use Rattle.operands.specs.Steps.{joined, with_tuples}
 use Rattle.rules.proofs.Bits.{from_none, from_next, from_append, from_above, from_zeros, from_lt, from_more, Bits, green_bits_lem, red_bits_lem, blue_bits_lem, all_bits, row, row_length, row_bits, row_zeros, from_row}
 
 -- ---- points
@@ -125,12 +125,6 @@ hue_next i bs =
     }
 
 -- What the code's eight bits hold
-
-module _ (t : ℕ) (h : Hue) (x : Hue) (e : x ≡ with_tuple t h) where
-  pub tuple_most : h.green ≤ 63 → h.red ≤ 63 → h.blue ≤ 63 → (x.green ≤ 127) × (x.red ≤ 127) × (x.blue ≤ 127)
-  tuple_most g r b =
-      (omega (arith, ap (λ (z : Hue). z.green) e), omega (arith, ap (λ (z : Hue). z.red) e), omega (arith, ap (λ (z : Hue). z.blue) e))
-
 value_most : (f : ℕ → List ℕ) → ((b : ℕ) → Bits (f b)) → (i : ℕ) (bs : List ℕ) → i < 4 → from_top (2 * i) (bits_of f bs) ≤ 63
 value_most f bits i bs h =
     let p : 2 ^ (2 * i) ≤ 2 ^ 6 = pow_mono {i = 2 * i} {j = 6} (omega arith) in

@@ -1,13 +1,12 @@
 -- Operands whose bytes have all come
-use Rattle.std.specs.Prelude.{◌≡◌, ◌&&◌, ◌∷◌, ◌++◌, ◌+◌, ◌*◌, ◌/◌, ◌%◌, ◌≤◌, ◌<◌}
-use Rattle.operands.specs.Prelude.{refl, sym, ap, ◌∙◌, Bool, true, false, not, List, [], ℕ, zero, suc, le_of_suc-le-suc, not-suc-le-zero, add-one, arith, leb, eqb, length, get_or, take, drop, length-drop, take-suc, drop-cons, get_or-drop, length-take-le, get_or-take, leb-true, leb-false, eq-eqb, ne_eqb, eqb-true, not-true}
+use Rattle.std.specs.Prelude.{◌≡◌, ◌↔◌, IsTrue, EachIndex, Some, None, ◌&&◌, ◌∷◌, ◌++◌, ◌+◌, ◌*◌, ◌/◌, ◌%◌, ◌≤◌, ◌<◌}
+use Rattle.operands.specs.Prelude.{refl, sym, ap, ◌∙◌, Bool, true, false, not, List, [], ℕ, zero, suc, le_of_suc-le-suc, not-suc-le-zero, arith, leb, eqb, length, get_or, take, drop, take_all, drop-cons, leb-true, leb-false, eq-eqb, ne_eqb, eqb-true, not-true}
 use Rattle.rules.specs.declared.Point.{Point}
 use Rattle.rules.specs.Operands.{bits_of, from_top, point, is_data, all_data}
-use Rattle.rules.proofs.Bools.{true_false, and_left, and_right, and_both, by_test, pick_yes, pick_no}
-use Rattle.operands.specs.declared.whole.Whole.TheVariants.{Cut, Whole as Whole·point}
+use Rattle.rules.proofs.Bools.{true_false, and_left, and_right, and_both, by_test, by_truth, pick_yes, pick_no}
 use Rattle.operands.specs.Steps.{joined}
 use Rattle.operands.specs.Data.{whole_of, three_of, three_at}
-use Rattle.operands.proofs.Operands.{point_more, point_next, join_two}
+use Rattle.operands.proofs.Operands.{point_more, join_two}
 
 pub byte_most : (b : ℕ) → b < 256 → b ≤ 255
 byte_most b h = omega arith
@@ -33,13 +32,27 @@ all_at [] i h e = absurd (not-suc-le-zero h)
 all_at (x ∷ xs) zero h e = and_left (is_data x) (all_data xs) e
 all_at (x ∷ xs) (suc i) h e = all_at xs i (le_of_suc-le-suc h) (and_right (is_data x) (all_data xs) e)
 
+-- Byte by byte
+data_each : (bs : List ℕ) → EachIndex bs (λ k. get_or bs k 0 / 64 ≡ 1) → all_data bs ≡ true
+unfolding all_data
+data_each [] h = refl
+data_each (b ∷ bs) h = and_both (sym (data_test b) ∙ eq-eqb (b / 64) 1 (h 0 (omega arith))) (data_each bs (λ i k. h (suc i) (omega (arith, k))))
+
+each_data : (bs : List ℕ) → all_data bs ≡ true → EachIndex bs (λ k. get_or bs k 0 / 64 ≡ 1)
+each_data bs e i h = eqb-true (get_or bs i 0 / 64) 1 (data_test (get_or bs i 0) ∙ all_at bs i h e)
+
+pub all_told : (bs : List ℕ) (t : Bool) → (IsTrue t ↔ EachIndex bs (λ k. get_or bs k 0 / 64 ≡ 1)) → t ≡ all_data bs
+all_told bs t f =
+    by_truth t (all_data bs) (λ e. data_each bs (f.0 e))
+    (λ e. by_test (all_data bs) (λ g. true_false (sym (f.1 (each_data bs g)) ∙ e)) (λ g. g))
+
 -- What whole operands are told as
 module _ (three : Bool) (bs : List ℕ) where
-  pub is_whole : all_data bs ≡ true → Whole·point (point three bs) ≡ whole_of three bs
+  pub is_whole : all_data bs ≡ true → Some (point three bs) ≡ whole_of three bs
   unfolding whole_of
   is_whole e = sym (pick_yes _ _ e)
 
-  pub is_cut : all_data bs ≡ false → Cut ≡ whole_of three bs
+  pub is_cut : all_data bs ≡ false → None ≡ whole_of three bs
   unfolding whole_of
   is_cut e = sym (pick_no _ _ e)
 
@@ -50,22 +63,6 @@ three_taken bs at h =
     let e1 : at + 1 ≡ suc at = omega arith in
     let e2 : at + 2 ≡ suc (suc at) = omega arith in
     rw (e1, e2, drop-cons bs at 0 (omega arith), drop-cons bs (suc at) 0 (omega arith), drop-cons bs (suc (suc at)) 0 (omega arith))
-
--- The multiplication's parts: those below bit 23 do not carry, those above stand 512 apart
-gathered : (y0 y1 y2 : ℕ) → y0 < 8 → y1 < 8 → y2 < 8
-    → (y0 + y1 * 256 + y2 * 65536) * 537133184 / 8388608 % 512 ≡ y0 * 64 + y1 * 8 + y2
-gathered y0 y1 y2 h0 h1 h2 =
-    let m = y0 * 64 + y1 * 8 + y2 in
-    let low = y0 * 262272 + y1 * 32768 in
-    let p : (y0 + y1 * 256 + y2 * 65536) * 537133184 ≡ low + 8388608 * (m + 512 * (y1 * 32 + y2 * 8196)) = omega arith in
-    let q : (low + 8388608 * (m + 512 * (y1 * 32 + y2 * 8196))) / 8388608 ≡ m + 512 * (y1 * 32 + y2 * 8196) = omega arith in
-    let s : (m + 512 * (y1 * 32 + y2 * 8196)) % 512 ≡ m = omega arith in
-    rw (p, q) s
-
-pub gather_is : (w : ℕ)
-    → (w % 8 + w / 256 % 8 * 256 + w / 65536 % 8 * 65536) * 537133184 / 8388608 % 512 * 8388608
-    ≡ (w % 8 * 64 + w / 256 % 8 * 8 + w / 65536 % 8) * 8388608
-gather_is w = ap (λ (k : ℕ). k * 8388608) (gathered (w % 8) (w / 256 % 8) (w / 65536 % 8) (omega arith) (omega arith) (omega arith))
 
 -- Numbers of three bytes without the lowest three bits, the first byte's rest a
 first_eighth : (a b1 b2 : ℕ) → (a + 32 * b1 + 8192 * b2) % 8 ≡ a % 8
@@ -160,40 +157,12 @@ module _ (bs : List ℕ) (at : ℕ) (h : at + 3 ≤ length bs) (fits : (i : ℕ)
       g (get_or bs at 0) (get_or bs (at + 1) 0) (get_or bs (at + 2) 0) (byte_most _ (fits at)) (byte_most _ (fits (at + 1))) (byte_most _ (fits (at + 2))) e
       ∙ ap f (sym (three_taken bs at h))
 
--- ---- byte by byte
-
--- The i-th of n bytes at a place
-module _ (bs : List ℕ) (at n i b : ℕ) (h : at + n ≤ length bs) (k : i < n) (e : b ≡ get_or bs (at + i) 0) where
-  here : get_or (drop at bs) i 0 ≡ b
-  here = get_or-drop at bs i 0 ∙ sym e
-
-  within : i < length (drop at bs)
-  within = omega (arith, length-drop at bs)
-
-  pub long_more : b / 64 ≡ 1 → all_data (take i (drop at bs)) ≡ true → all_data (take (i + 1) (drop at bs)) ≡ true
-  long_more d a =
-      let t = sym (data_test b) ∙ eq-eqb (b / 64) 1 d in
-      rw (add-one, take-suc (drop at bs) i 0 within, here) (all_more (take i (drop at bs)) b a t)
-
-  pub long_point : (three : Bool) (p q : Point) → q ≡ joined three i b p → p ≡ point three (take i (drop at bs)) → q ≡ point three (take (i + 1) (drop at bs))
-  long_point three p q f g =
-      f ∙ ap (joined three i b) g
-      ∙ ap (λ (c : ℕ). joined three i c (point three (take i (drop at bs)))) (sym here)
-      ∙ sym (point_next three (drop at bs) i within)
-
-  pub long_cut : (three : Bool) → (b / 64 ≡ 1 → ⊥) → Cut ≡ whole_of three (take n (drop at bs))
-  long_cut three d =
-      let l = take n (drop at bs) in
-      let m : length l ≡ n = length-take-le n (drop at bs) (omega (arith, length-drop at bs)) in
-      by_test (all_data l)
-      (λ t. true_false (sym (all_at l i (omega arith) t) ∙ ap is_data (get_or-take n (drop at bs) i 0 k ∙ here) ∙ sym (data_test b) ∙ ne_eqb (b / 64) 1 d))
-      (λ t. is_cut three l t)
-
-pub long_whole : (bs : List ℕ) (at n i : ℕ) (three : Bool) (p : Point) → i ≤ n → n ≤ i → p ≡ point three (take i (drop at bs)) → all_data (take i (drop at bs)) ≡ true → Whole·point p ≡ whole_of three (take n (drop at bs))
-long_whole bs at n i three p h k e a =
-    let f : i ≡ n = omega arith in
-    let g = ap (λ (m : ℕ). take m (drop at bs)) f in
-    ap Whole·point (e ∙ ap (point three) g) ∙ is_whole three (take n (drop at bs)) (sym (ap all_data g) ∙ a)
+-- Three bytes and no more
+pub three_whole : (bs : List ℕ) → length bs ≡ 3 → ((i : ℕ) → get_or bs i 0 < 256) → {A : Type 0} (f : List ℕ → A) (r : A) (w : ℕ)
+    → ((b0 b1 b2 : ℕ) → b0 ≤ 255 → b1 ≤ 255 → b2 ≤ 255 → w ≡ three_of b0 b1 b2 → r ≡ f (b0 ∷ b1 ∷ b2 ∷ []))
+    → w ≡ three_at bs 0 → r ≡ f bs
+three_whole bs h fits f r w g e =
+    three_told bs 0 (omega arith) fits f r w g e ∙ ap f (take_all 3 bs (omega arith))
 
 -- Three bytes in two dimensions
 pub is_three : (n : ℕ) (three t : Bool) → t ≡ (eqb n 3 && not three) → t ≡ true → (n ≡ 3) × (three ≡ false)

@@ -1,14 +1,13 @@
 -- Operands whose bytes have all come
-use Rattle.std.specs.Prelude.{◌+◌, ◌*◌}
+use Rattle.std.specs.Prelude.{◌+◌, ◌*◌, Option, None, Some}
 use Rattle.operands.specs.Prelude.{ℕ, Bool, List, get_or}
+use Rattle.rules.specs.declared.Point.{Point}
 use Rattle.rules.specs.Choice.{pick}
 use Rattle.rules.specs.Operands.{point, all_data}
-use Rattle.operands.specs.declared.whole.Whole.{Whole}
-use Rattle.operands.specs.declared.whole.Whole.TheVariants.{Cut, Whole as Whole·point}
 
 -- The point of bytes that are all data
-unfoldable pub whole_of : Bool → List ℕ → Whole
-whole_of three bs = pick (all_data bs) (Whole·point (point three bs)) Cut
+unfoldable pub whole_of : Bool → List ℕ → Option Point
+whole_of three bs = pick (all_data bs) (Some (point three bs)) None
 
 -- Three bytes as a number, the first the lowest
 abbrev pub three_of : ℕ → ℕ → ℕ → ℕ

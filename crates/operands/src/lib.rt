@@ -9,19 +9,9 @@ ghost use Rattle.rules.specs.Increments.{negated};
 ghost use Rattle.rules.specs.Drawing.{domain_of};
 ghost use Rattle.operands.specs.Steps.{joined, with_tuple, with_tuples};
 
-use rules::{Domain, Operand, Point};
+use rules::{Domain, ORIGIN, Operand, Point};
 
-// The least pattern of a negative number.
-const NEGATIVE: u32 = 0x8000_0000;
-
-// A sum wrapped at 32 bits, and whether the sum of the numbers left the range.
-#[derive(Clone, Copy)]
-pub struct Sum {
-    pub value: u32,
-    pub outside: bool,
-}
-
-// A point displaced, and whether one of its sums left the range.
+// A point displaced, and whether one of its sums left the range. No Option: the wrapped point is drawn too.
 #[derive(Clone, Copy)]
 pub struct Displaced {
     pub point: Point,
@@ -36,52 +26,42 @@ pub struct Hue {
     pub blue: u8,
 }
 
-// The sum leaves the range where its sign is neither summand's.
-fn leaves_range(a: u32, b: u32, sum: u32) -> bool
-    requires { sum ≡ wrapped_sum a b }
-    ensures { result ≡ leaves_range a b }
+// A sum wrapped at 32 bits, and whether the sum of the signed numbers left the range.
+fn add(a: u32, b: u32) -> (u32, bool)
+    ensures { (result.0 ≡ wrapped_sum a b) × (result.1 ≡ leaves_range a b) }
 {
-    ((a ^ sum) & (b ^ sum)) / NEGATIVE == 1
-}
-
-fn add(a: u32, b: u32) -> Sum
-    ensures { (result.value ≡ wrapped_sum a b) × (result.outside ≡ leaves_range a b) }
-{
-    let value = std::num::wrapping_add_u32(a, b);
-    let outside = leaves_range(a, b, value);
-    Sum { value, outside }
+    let (sum, outside) = a.cast_signed().overflowing_add(b.cast_signed());
+    (sum.cast_unsigned(), outside)
 }
 
 // A number with the other sign.
 pub fn negate(n: u32) -> u32
     ensures { result ≡ negated n }
 {
-    std::num::wrapping_sub_u32(0, n)
+    n.wrapping_neg()
 }
 
 pub fn displace(p: Point, d: Point) -> Displaced
     ensures { (result.point ≡ displaced p d) × (result.outside ≡ displaced_out p d) }
 {
-    let x = add(p.x, d.x);
-    let y = add(p.y, d.y);
-    let point = Point {
-        x: x.value,
-        y: y.value,
-    };
-    let outside = x.outside || y.outside;
-    Displaced { point, outside }
+    let (x, x_outside) = add(p.x, d.x);
+    let (y, y_outside) = add(p.y, d.y);
+    Displaced {
+        point: Point { x, y },
+        outside: x_outside || y_outside,
+    }
 }
 
 // Bits joined to the top of a coordinate, shifted to their place.
-fn put_bits(top: u32, bits: u32, shift: u32) -> u32
+fn put_bits(top: u32, bits: u32, shift: usize) -> u32
     requires { shift < 32 }
     ensures { result ≡ (top + bits * 2 ^ shift) % 2 ^ 32 }
 {
-    std::num::wrapping_add_u32(top, bits << shift)
+    top.wrapping_add(bits << shift)
 }
 
 // The point of an operand with one more byte, after i bytes.
-fn gather_byte(p: Point, three: bool, i: u32, byte: u8) -> Point
+fn gather_byte(p: Point, three: bool, i: usize, byte: u8) -> Point
     requires { i < 8 }
     ensures { result ≡ joined three i byte p }
 {
@@ -103,11 +83,9 @@ fn read_point(bytes: &[u8], three: bool) -> Point
     requires { length bytes.now ≤ 8 }
     ensures { result ≡ point three bytes.now }
 {
-    let mut p = Point { x: 0, y: 0 };
-    let mut i = 0;
-    while i < bytes.len() {
-        p = gather_byte(p, three, i as u32, bytes[i]);
-        i += 1;
+    let mut p = ORIGIN;
+    for (i, byte) in bytes.iter().enumerate() {
+        p = gather_byte(p, three, i, *byte);
     }
     p
 }
@@ -116,9 +94,7 @@ pub fn point_of(o: Operand, three: bool) -> Point
     requires { o.count ≤ 8 }
     ensures { result ≡ point three (begun o) }
 {
-    let bytes = o.bytes;
-    let n = o.count as usize;
-    read_point(&bytes[..n], three)
+    read_point(&o.bytes[..o.count as usize], three)
 }
 
 // A byte of an operand, 0 where it has not come.
@@ -126,12 +102,7 @@ pub fn byte_of(o: Operand, i: usize) -> u8
     requires { i < 8 }
     ensures { result ≡ slice_index (begun o) i }
 {
-    let n = o.count as usize;
-    if n <= i {
-        return 0;
-    }
-    let bytes = o.bytes;
-    bytes[i]
+    if i < o.count as usize { o.bytes[i] } else { 0 }
 }
 
 pub fn address_of(o: Operand) -> u8
@@ -177,10 +148,8 @@ pub fn hue_of(o: Operand) -> Hue
         red: 0,
         blue: 0,
     };
-    let mut i: usize = 0;
-    while i < 4 {
+    for i in 0..4 {
         hue = gather_tuples(hue, byte_of(o, i));
-        i += 1;
     }
     hue
 }

@@ -1,31 +1,17 @@
 // Operands whose bytes have all come. Those of the default domain, three bytes in two dimensions, are read as one number.
-ghost use Rattle.std.specs.Prelude.{◌≡◌, ℕ, ◌+◌, ◌*◌, ◌/◌, ◌%◌, ◌<◌, ◌≤◌, false, not, ◌&&◌, [], ◌∷◌, length, take, drop, ◌==◌, slice_index};
+ghost use Rattle.std.specs.Prelude.{◌≡◌, ◌↔◌, ℕ, ◌+◌, ◌*◌, ◌/◌, ◌%◌, ◌≤◌, false, not, ◌&&◌, [], ◌∷◌, length, ◌==◌, slice_index, IsTrue, EachIndex};
 ghost use Rattle.rules.specs.Operands.{point, all_data};
 ghost use Rattle.operands.specs.Data.{whole_of, three_of, three_at};
 
-use crate::gather_byte;
+use crate::read_point;
 use rules::Point;
-
-// The point of an operand, or that not all its bytes are data.
-#[derive(Clone, Copy)]
-pub enum Whole {
-    Cut,
-    Whole(Point),
-}
-
-fn byte_at(bytes: &[u8], i: usize) -> u64
-    requires { i < length bytes.now }
-    ensures { (result ≡ slice_index bytes.now i) × (result ≤ 255) }
-{
-    bytes[i] as u64
-}
 
 // Three bytes as a number, the first the lowest.
 pub fn three_bytes(bytes: &[u8], at: usize) -> u64
     requires { at + 3 ≤ length bytes.now }
     ensures { result ≡ three_at bytes.now at }
 {
-    byte_at(bytes, at) + byte_at(bytes, at + 1) * 256 + byte_at(bytes, at + 2) * 65536
+    u64::from_le_bytes([bytes[at], bytes[at + 1], bytes[at + 2], 0, 0, 0, 0, 0])
 }
 
 // Whether each of three bytes has b8 b7 = 0 1.
@@ -52,32 +38,33 @@ pub fn point_of_three(w: u64) -> Point
     }
 }
 
-fn whole_three(bytes: &[u8], at: usize) -> Whole
-    requires { at + 3 ≤ length bytes.now }
-    ensures { result ≡ whole_of false (take 3 (drop at bytes.now)) }
+fn whole_three(bytes: &[u8]) -> Option<Point>
+    requires { length bytes.now ≡ 3 }
+    ensures { result ≡ whole_of false bytes.now }
 {
-    let w = three_bytes(bytes, at);
-    if !are_data(w) {
-        return Whole::Cut;
+    let w = three_bytes(bytes, 0);
+    if are_data(w) {
+        Some(point_of_three(w))
+    } else {
+        None
     }
-    Whole::Whole(point_of_three(w))
 }
 
-fn whole_long(bytes: &[u8], at: usize, n: usize, three: bool) -> Whole
-    requires { (at + n ≤ length bytes.now) × (n ≤ 8) }
-    ensures { result ≡ whole_of three (take n (drop at bytes.now)) }
+fn are_all_data(bytes: &[u8]) -> bool
+    ensures { IsTrue result ↔ EachIndex bytes.now (λ k. slice_index bytes.now k / 64 ≡ 1) }
 {
-    let mut p = Point { x: 0, y: 0 };
-    let mut i: usize = 0;
-    while i < n {
-        let byte = bytes[at + i];
-        if byte / 64 != 1 {
-            return Whole::Cut;
-        }
-        p = gather_byte(p, three, i as u32, byte);
-        i += 1;
+    bytes.iter().all(|byte| *byte / 64 == 1)
+}
+
+fn whole_long(bytes: &[u8], three: bool) -> Option<Point>
+    requires { length bytes.now ≤ 8 }
+    ensures { result ≡ whole_of three bytes.now }
+{
+    if are_all_data(bytes) {
+        Some(read_point(bytes, three))
+    } else {
+        None
     }
-    Whole::Whole(p)
 }
 
 // Whether points have three bytes in two dimensions.
@@ -87,12 +74,14 @@ pub fn has_three(n: usize, three: bool) -> bool
     n == 3 && !three
 }
 
-pub fn whole_point(bytes: &[u8], at: usize, n: usize, three: bool) -> Whole
-    requires { (at + n ≤ length bytes.now) × (n ≤ 8) }
-    ensures { result ≡ whole_of three (take n (drop at bytes.now)) }
+// The point of an operand, or none where not all its bytes are data.
+pub fn whole_point(bytes: &[u8], three: bool) -> Option<Point>
+    requires { length bytes.now ≤ 8 }
+    ensures { result ≡ whole_of three bytes.now }
 {
-    if has_three(n, three) {
-        return whole_three(bytes, at);
+    if has_three(bytes.len(), three) {
+        whole_three(bytes)
+    } else {
+        whole_long(bytes, three)
     }
-    whole_long(bytes, at, n, three)
 }

@@ -1,9 +1,8 @@
 -- The codes of a data byte, carried out.
 use Rattle.std.specs.Prelude.{◌+◌, ◌≤◌, ◌≡◌}
-use Rattle.outlines.specs.Prelude.{ℕ, Bool, true, false, List, refl, sym, ap, ◌∙◌, subst, ltb-true, ltb-false}
+use Rattle.std.proofs.Common.{ℕ, Bool, true, false, List, refl, sym, ap, ◌∙◌, subst, ltb-true, ltb-false}
 use Rattle.rules.specs.declared.Command.{Command}
 use Rattle.rules.specs.declared.Drawing.{Drawing}
-use Rattle.rules.specs.declared.Look.{Look}
 use Rattle.rules.specs.declared.Outline.{Outline}
 use Rattle.rules.specs.declared.Outline.TheVariants.{Line, Polygon}
 use Rattle.rules.specs.declared.Pen.{Pen}
@@ -21,41 +20,42 @@ use Rattle.outlines.specs.declared.Coded.{Coded}
 use Rattle.outlines.specs.Trails.{trail_of, on_trail, trail_after, moved_after, records_after, Inked, Follows, overflows, IsCodes}
 use Rattle.outlines.proofs.CodeLaws.{codes_law}
 
-module _ (o : Outline) (filled : Bool) (b : ℕ) (pen : Pen) (command : Command) (look : Look) (at : ℕ) (out : List ℕ) where
+module _ (o : Outline) (filled : Bool) (b : ℕ) (d : Drawing) (at : ℕ) (out : List ℕ) where
   abbrev begun : Trail
-  begun = trail_of pen.point command
+  begun = trail_of d.pen.point d.command
 
   -- A vertex too many
-  pub byte_refused : (t : Trail) → t ≡ begun → command.vertices ≤ most_vertices → overflows o b t ≡ true → (m : List ℕ)
-      → record { refused = true; drawing = drawing_of pen command look m; at = at; output = out } ≡ carry_out (apply_codes o filled (codes b)) (drawing_of pen command look m) at out
+  pub byte_refused : (t : Trail) → t ≡ begun → d.command.vertices ≤ most_vertices → overflows o b t ≡ true
+      → record { refused = true; drawing = d; at = at; output = out } ≡ carry_out (apply_codes o filled (codes b)) d at out
   unfolding carry
-  byte_refused t e h k m = by o (ap (overflows o b) (sym e) ∙ k)
+  byte_refused t e h k = by o (ap (overflows o b) (sym e) ∙ k)
     where
       by : (x : Outline) → overflows x b begun ≡ true
-          → unfold carry in (record { refused = true; drawing = drawing_of pen command look m; at = at; output = out } ≡ carry_out (apply_codes x filled (codes b)) (drawing_of pen command look m) at out)
+          → unfold carry in (record { refused = true; drawing = d; at = at; output = out } ≡ carry_out (apply_codes x filled (codes b)) d at out)
       by Line e = true_false (sym e)
       by Polygon e =
-          ap (λ (y : Outcome). carry y (drawing_of pen command look m) at out)
-          (sym (codes_refused filled (codes b) (drawing_of pen command look m) h (ltb-true most_vertices _ e)))
+          ap (λ (y : Outcome). carry y d at out)
+          (sym (codes_refused filled (codes b) d h (ltb-true most_vertices _ e)))
 
   -- None
-  room : (x : Outline) → overflows x b begun ≡ false → x ≡ Polygon → command.vertices + moves_in Polygon (codes b) begun.changes ≤ most_vertices
+  room : (x : Outline) → overflows x b begun ≡ false → x ≡ Polygon → d.command.vertices + moves_in Polygon (codes b) begun.changes ≤ most_vertices
   room x e p = ltb-false most_vertices _ (subst (λ (y : Outline). overflows y b begun ≡ false) p e)
 
-  pub byte_drawn : (t : Trail) (x : Inks) (r : Coded) (left : List ℕ) (pen' : Pen) (command' : Command) → t ≡ begun
-      → IsCodes command.due → Inked x o filled look → overflows o b t ≡ false
+  pub byte_drawn : (t : Trail) (x : Inks) (r : Coded) (left : List ℕ) (pen : Pen) (command : Command) → t ≡ begun
+      → IsCodes d.command.due → Inked x o filled d.look → overflows o b t ≡ false
       → Follows o x (codes b) (record { at = at; moved = false; trail = t }) out r left
-      → pen' ≡ moved_if r.moved r.trail.point pen → command' ≡ on_trail r.trail command → (m : List ℕ)
-      → record { refused = false; drawing = drawing_of pen' command' look m; at = r.at; output = left }
-      ≡ carry_out (apply_codes o filled (codes b)) (drawing_of pen command look m) at out
-  byte_drawn t x r left pen' command' e due i fits follows p k m =
+      → pen ≡ moved_if r.moved r.trail.point d.pen → command ≡ on_trail r.trail d.command
+      → record { refused = false; drawing = drawing_of pen command d.look d.map; at = r.at; output = left }
+      ≡ carry_out (apply_codes o filled (codes b)) d at out
+  byte_drawn t x r left pen command e due i fits follows p k =
       let f = subst (λ (u : Trail). Follows o x (codes b) (record { at = at; moved = false; trail = u }) out r left) e follows in
-      let same : on_trail begun command ≡ command =
-      λ j. command_of command.opcode (due j) command.vertices command.start command.kept command.noted in
-      let law = codes_law o filled (codes b) begun pen command look m refl (room o (ap (overflows o b) (sym e) ∙ fits)) in
-      let ends : drawing_of pen' command' look m ≡ drawing_of (moved_if (moved_after o (codes b) begun) (trail_after o (codes b) begun).point pen) (on_trail (trail_after o (codes b) begun) command) look m =
-      (λ j. drawing_of (p j) (k j) look m) ∙ (λ j. drawing_of (moved_if (f.moved j) (f.trail j).point pen) (on_trail (f.trail j) command) look m) in
-      let drew : apply_codes o filled (codes b) (drawing_of pen command look m) ≡ Draw (drawing_of pen' command' look m) (records_after o filled (codes b) begun look) =
-      ap (λ (c : Command). apply_codes o filled (codes b) (drawing_of pen c look m)) (sym same) ∙ law
-      ∙ ap (λ (e : Drawing). Draw e (records_after o filled (codes b) begun look)) (sym ends) in
-      puts_carried (drawing_of pen command look m) (drawing_of pen' command' look m) at r.at out left drew (f.put filled look i)
+      let c = d.command in
+      let same : on_trail begun c ≡ c =
+      λ j. command_of c.opcode (due j) c.vertices c.start c.kept c.noted in
+      let law = codes_law o filled (codes b) begun d.pen c d.look d.map refl (room o (ap (overflows o b) (sym e) ∙ fits)) in
+      let ends : drawing_of pen command d.look d.map ≡ drawing_of (moved_if (moved_after o (codes b) begun) (trail_after o (codes b) begun).point d.pen) (on_trail (trail_after o (codes b) begun) c) d.look d.map =
+      (λ j. drawing_of (p j) (k j) d.look d.map) ∙ (λ j. drawing_of (moved_if (f.moved j) (f.trail j).point d.pen) (on_trail (f.trail j) c) d.look d.map) in
+      let drew : apply_codes o filled (codes b) d ≡ Draw (drawing_of pen command d.look d.map) (records_after o filled (codes b) begun d.look) =
+      ap (λ (z : Command). apply_codes o filled (codes b) (drawing_of d.pen z d.look d.map)) (sym same) ∙ law
+      ∙ ap (λ (z : Drawing). Draw z (records_after o filled (codes b) begun d.look)) (sym ends) in
+      puts_carried d (drawing_of pen command d.look d.map) at r.at out left drew (f.put filled d.look i)

@@ -1,6 +1,6 @@
 -- Codes as the rules apply them, by the trail.
 use Rattle.std.specs.Prelude.{◌+◌, ◌≤◌, ◌<◌, ◌||◌, ◌∷◌, ◌≡◌}
-use Rattle.outlines.specs.Prelude.{ℕ, arith, Bool, true, false, not, List, [], refl, sym, ap, ◌∙◌, subst, eqb, lt-ltb, eqb-true}
+use Rattle.std.proofs.Common.{ℕ, arith, Bool, true, false, not, List, [], refl, sym, ap, ◌∙◌, subst, eqb, lt-ltb, eqb-true}
 use Rattle.rules.specs.declared.Command.{Command}
 use Rattle.rules.specs.declared.Look.{Look}
 use Rattle.rules.specs.declared.Outline.{Outline}

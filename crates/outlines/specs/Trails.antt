@@ -1,6 +1,5 @@
 -- Trails: how far an outline has come, apart from the rest of the drawing state
-use Rattle.std.specs.Prelude.{◌+◌, ◌*◌, ◌≤◌, ◌||◌, ◌∷◌, ◌++◌, ◌≡◌}
-use Rattle.outlines.specs.Prelude.{ℕ, suc, Bool, true, false, not, List, [], ltb, eqb, length}
+use Rattle.std.specs.Prelude.{◌+◌, ◌*◌, ◌≤◌, ◌||◌, ◌∷◌, ◌++◌, ◌≡◌, ℕ, suc, Bool, true, false, not, List, [], ltb, eqb, length}
 use Rattle.rules.specs.declared.Command.{Command}
 use Rattle.rules.specs.declared.Due.{Due}
 use Rattle.rules.specs.declared.Due.TheVariants.{Second, Third}

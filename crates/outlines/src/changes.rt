@@ -22,27 +22,25 @@ pub struct Trail {
 fn names_x(code: u8) -> bool
     ensures { result ≡ names_x code }
 {
-    code == 1 || code == 3
+    matches!(code, 1 | 3)
 }
 
 // Whether a code names the y axis.
 fn names_y(code: u8) -> bool
     ensures { result ≡ names_y code }
 {
-    code == 2 || code == 3
+    matches!(code, 2 | 3)
 }
 
 // The step on an axis, where it is named.
 fn named(told: bool, step: u32) -> u32
     ensures { result ≡ pick told step 0 }
 {
-    if told {
-        return step;
-    }
-    0
+    if told { step } else { 0 }
 }
 
 // The step on the axes that a code names.
+#[tactic(auto, unfolding(rules::specs::Increments::displacement))]
 pub(crate) fn displacement(code: u8, step: Point) -> Point
     ensures { result ≡ displacement code step }
 {
@@ -55,13 +53,11 @@ pub(crate) fn displacement(code: u8, step: Point) -> Point
 fn turned(told: bool, step: u32) -> u32
     ensures { result ≡ pick told (negated step) step }
 {
-    if told {
-        return negate(step);
-    }
-    step
+    if told { negate(step) } else { step }
 }
 
 // The step with the other sign on the axes that a code names.
+#[tactic(auto, unfolding(rules::specs::Increments::sign_changed))]
 fn with_signs(code: u8, step: Point) -> Point
     ensures { result ≡ sign_changed code step }
 {
@@ -74,10 +70,7 @@ fn with_signs(code: u8, step: Point) -> Point
 pub(crate) fn is_move(code: u8, changes: bool) -> bool
     ensures { result ≡ not (changes || eqb code 0) }
 {
-    if changes {
-        return false;
-    }
-    code != 0
+    !changes && code != 0
 }
 
 // Whether a change is due after a code.
@@ -85,12 +78,7 @@ pub(crate) fn changes_after(outline: Outline, code: u8, changes: bool) -> bool
     ensures { result ≡ changes_after outline code changes }
 {
     match outline {
-        Outline::Line => {
-            if changes {
-                return false;
-            }
-            code == 0
-        }
+        Outline::Line => !changes && code == 0,
         Outline::Polygon => code == 0,
     }
 }
@@ -98,34 +86,24 @@ pub(crate) fn changes_after(outline: Outline, code: u8, changes: bool) -> bool
 fn is_change_due(due: Due) -> bool
     ensures { result ≡ change_due due }
 {
-    match due {
-        Due::First => false,
-        Due::Second => false,
-        Due::Third => true,
-        Due::Past => false,
-    }
+    matches!(due, Due::Third)
 }
 
 fn due_for(changes: bool) -> Due
     ensures { result ≡ due_for changes }
 {
-    if changes {
-        return Due::Third;
-    }
-    Due::Second
+    if changes { Due::Third } else { Due::Second }
 }
 
 // The trail of a command at a point.
 pub fn trail_of(point: Point, command: Command) -> Trail
     ensures { result ≡ trail_of point command }
 {
-    let step = command.kept;
-    let due = command.due;
     Trail {
         point,
-        step,
+        step: command.kept,
         off: command.noted,
-        changes: is_change_due(due),
+        changes: is_change_due(command.due),
         vertices: command.vertices,
     }
 }
@@ -134,15 +112,12 @@ pub fn trail_of(point: Point, command: Command) -> Trail
 pub fn with_trail(command: Command, trail: Trail) -> Command
     ensures { result ≡ on_trail trail command }
 {
-    let start = command.start;
-    let kept = trail.step;
     Command {
-        opcode: command.opcode,
         due: due_for(trail.changes),
         vertices: trail.vertices,
-        start,
-        kept,
+        kept: trail.step,
         noted: trail.off,
+        ..command
     }
 }
 
@@ -159,16 +134,13 @@ fn flag_after(outline: Outline, code: u8, off: bool) -> bool
     }
 }
 
-// The trail after a code that is no move.
-pub(crate) fn alter(outline: Outline, code: u8, trail: Trail) -> Trail
-    ensures { result ≡ altered_trail outline code trail }
+// A code that is no move alters the trail.
+pub(crate) fn alter(outline: Outline, code: u8, trail: &mut Trail)
+    ensures { trail.new ≡ altered_trail outline code trail.old }
 {
-    let mut altered = trail;
-    altered.changes = changes_after(outline, code, trail.changes);
     if trail.changes {
-        let step = trail.step;
-        altered.step = with_signs(code, step);
-        altered.off = flag_after(outline, code, trail.off);
+        trail.step = with_signs(code, trail.step);
+        trail.off = flag_after(outline, code, trail.off);
     }
-    altered
+    trail.changes = changes_after(outline, code, trail.changes);
 }

@@ -11,15 +11,15 @@ ghost use Rattle.rules.specs.Record.{words, bytes_of};
 ghost use Rattle.rules.specs.Increments.{codes, moves_in};
 ghost use Rattle.rules.specs.Drawing.{apply_codes};
 ghost use Rattle.records.specs.Bytes.{head_bytes};
-ghost use Rattle.figures.specs.Carried.{Puts, DrawsBy};
+ghost use Rattle.figures.specs.Carried.{Puts, carry_out, carried_of};
 ghost use Rattle.outlines.specs.Trails.{kind_of, is_drawn, vertices_after, Inked, MovesOn, Follows, overflows, IsCodes};
 
 use crate::changes::{Trail, alter, changes_after, displacement, is_move, trail_of, with_trail};
-use figures::Drawn;
-use figures::answers::moved_if;
+use figures::TooManyVertices;
+use figures::answers::move_if;
 use operands::displace;
 use records::{Head, flags, head_of, put_words};
-use rules::{Command, Look, MOST_VERTICES, ORIGIN, Outline, Pen, Point, RECORD_SIZE};
+use rules::{Drawing, Look, MOST_VERTICES, ORIGIN, Outline, Point, RECORD_SIZE};
 
 // The heads of the records of moves, by whether a sum left the range, and the pel.
 #[derive(Clone, Copy)]
@@ -29,7 +29,8 @@ pub struct Inks {
     pub pel: Point,
 }
 
-// The place after the records, whether the point was moved, and the trail.
+// The place after the records, whether the point was moved, and the trail. The flag is beside the trail since the trail stands in
+// either case.
 #[derive(Clone, Copy)]
 pub struct Coded {
     pub at: usize,
@@ -51,13 +52,10 @@ fn inks_of(outline: Outline, filled: bool, look: Look) -> Inks
     ensures { Inked result outline filled look }
 {
     let kind = kind_of(outline);
-    let plain = head_of(look, kind, flags(filled, false, false), 0, 0);
-    let wrapped = head_of(look, kind, flags(filled, true, false), 0, 0);
-    let pel = look.domain.pel;
     Inks {
-        plain,
-        wrapped,
-        pel,
+        plain: head_of(look, kind, flags(filled, false, false), 0, 0),
+        wrapped: head_of(look, kind, flags(filled, true, false), 0, 0),
+        pel: look.domain.pel,
     }
 }
 
@@ -65,9 +63,7 @@ fn inks_of(outline: Outline, filled: bool, look: Look) -> Inks
 fn head_for(inks: Inks, outside: bool) -> Head
     ensures { result ≡ pick outside inks.wrapped inks.plain }
 {
-    let plain = inks.plain;
-    let wrapped = inks.wrapped;
-    if outside { wrapped } else { plain }
+    if outside { inks.wrapped } else { inks.plain }
 }
 
 // Whether a move is drawn: a line's unless the draw flag is off, a polygon's always.
@@ -114,66 +110,47 @@ fn put_move(
 }
 
 // A move by the axes that a code names.
-fn move_on(outline: Outline, code: u8, coded: Coded, inks: Inks, out: &mut [u8]) -> Coded
-    requires { (coded.trail.vertices ≤ most_vertices + 2) × (coded.at + record_size ≤ length out.old) }
-    ensures { MovesOn outline inks code coded out.old result out.new }
+fn move_on(outline: Outline, code: u8, coded: &mut Coded, inks: Inks, out: &mut [u8])
+    requires { (coded.old.trail.vertices ≤ most_vertices + 2) × (coded.old.at + record_size ≤ length out.old) }
+    ensures { MovesOn outline inks code coded.old out.old coded.new out.new }
 {
-    let trail = coded.trail;
-    let p = trail.point;
-    let aimed = displace(p, displacement(code, trail.step));
-    let q = aimed.point;
-    let drawn = is_drawn(outline, trail.off);
+    let p = coded.trail.point;
+    let aimed = displace(p, displacement(code, coded.trail.step));
+    let drawn = is_drawn(outline, coded.trail.off);
     let head = head_for(inks, aimed.outside);
-    let at = put_move(drawn, head, p, q, inks.pel, out, coded.at);
-    let vertices = vertices_after(outline, trail.vertices);
-    let step = trail.step;
-    Coded {
-        at,
-        moved: true,
-        trail: Trail {
-            point: q,
-            step,
-            off: trail.off,
-            changes: trail.changes,
-            vertices,
-        },
-    }
+    coded.at = put_move(drawn, head, p, aimed.point, inks.pel, out, coded.at);
+    coded.moved = true;
+    coded.trail.point = aimed.point;
+    coded.trail.vertices = vertices_after(outline, coded.trail.vertices);
 }
 
 // One code: a move, or what alters the trail.
-fn apply_code(outline: Outline, code: u8, coded: Coded, inks: Inks, out: &mut [u8]) -> Coded
-    requires { (coded.trail.vertices ≤ most_vertices + 2) × (coded.at + record_size ≤ length out.old) }
-    ensures { Follows outline inks (code ∷ []) coded out.old result out.new }
+fn apply_code(outline: Outline, code: u8, coded: &mut Coded, inks: Inks, out: &mut [u8])
+    requires { (coded.old.trail.vertices ≤ most_vertices + 2) × (coded.old.at + record_size ≤ length out.old) }
+    ensures { Follows outline inks (code ∷ []) coded.old out.old coded.new out.new }
 {
-    let trail = coded.trail;
-    if is_move(code, trail.changes) {
-        return move_on(outline, code, coded, inks, out);
-    }
-    Coded {
-        at: coded.at,
-        moved: coded.moved,
-        trail: alter(outline, code, trail),
+    if is_move(code, coded.trail.changes) {
+        move_on(outline, code, coded, inks, out);
+    } else {
+        alter(outline, code, &mut coded.trail);
     }
 }
 
 // The three codes of a byte, b6 b5 first.
-fn apply_codes(outline: Outline, byte: u8, coded: Coded, inks: Inks, out: &mut [u8]) -> Coded
-    requires { (coded.trail.vertices ≤ most_vertices) × (coded.at + room_for_step ≤ length out.old) }
-    ensures { Follows outline inks (codes byte) coded out.old result out.new }
+fn apply_codes(outline: Outline, byte: u8, coded: &mut Coded, inks: Inks, out: &mut [u8])
+    requires { (coded.old.trail.vertices ≤ most_vertices) × (coded.old.at + room_for_step ≤ length out.old) }
+    ensures { Follows outline inks (codes byte) coded.old out.old coded.new out.new }
 {
-    let first = apply_code(outline, byte / 16 % 4, coded, inks, out);
-    let second = apply_code(outline, byte / 4 % 4, first, inks, out);
-    apply_code(outline, byte % 4, second, inks, out)
+    apply_code(outline, byte / 16 % 4, coded, inks, out);
+    apply_code(outline, byte / 4 % 4, coded, inks, out);
+    apply_code(outline, byte % 4, coded, inks, out);
 }
 
 // How many moves a code makes: one or none.
 fn moves_of(code: u8, changes: bool) -> u16
     ensures { (result ≡ pick (changes || eqb code 0) 0 1) × (result ≤ 1) }
 {
-    if is_move(code, changes) {
-        return 1;
-    }
-    0
+    if is_move(code, changes) { 1 } else { 0 }
 }
 
 // The vertices that a polygon would have after a byte.
@@ -206,40 +183,26 @@ pub fn draw_codes(
     outline: Outline,
     filled: bool,
     byte: u8,
-    pen: Pen,
-    command: Command,
-    look: Look,
+    drawing: &mut Drawing,
     out: &mut [u8],
     at: usize,
-) -> Drawn
-    requires { (command.vertices ≤ most_vertices) × (IsCodes command.due) × (at + room_for_step ≤ length out.old) }
-    ensures { DrawsBy (apply_codes outline filled (codes byte)) pen command look at out.old result out.new }
+) -> Result<usize, TooManyVertices>
+    requires { (drawing.old.command.vertices ≤ most_vertices) × (IsCodes drawing.old.command.due) × (at + room_for_step ≤ length out.old) }
+    ensures { carried_of result at drawing.new out.new
+        ≡ carry_out (apply_codes outline filled (codes byte)) drawing.old at out.old }
 {
-    let point = pen.point;
-    let trail = trail_of(point, command);
+    let trail = trail_of(drawing.pen.point, drawing.command);
     if overflows(outline, byte, trail) {
-        return Drawn {
-            too_many_vertices: true,
-            at,
-            pen,
-            command,
-            look,
-        };
+        return Err(TooManyVertices);
     }
-    let begun = Coded {
+    let mut coded = Coded {
         at,
         moved: false,
         trail,
     };
-    let coded = apply_codes(outline, byte, begun, inks_of(outline, filled, look), out);
-    let trail = coded.trail;
-    let pen = moved_if(coded.moved, pen, trail.point);
-    let command = with_trail(command, trail);
-    Drawn {
-        too_many_vertices: false,
-        at: coded.at,
-        pen,
-        command,
-        look,
-    }
+    let inks = inks_of(outline, filled, drawing.look);
+    apply_codes(outline, byte, &mut coded, inks, out);
+    move_if(coded.moved, &mut drawing.pen, coded.trail.point);
+    drawing.command = with_trail(drawing.command, coded.trail);
+    Ok(coded.at)
 }

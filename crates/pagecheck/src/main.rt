@@ -4,11 +4,10 @@
 // group, one for all, and one for each reading that differs: page, cut and buffer.
 #![tactic(auto)]
 
-ghost use Rattle.std.specs.Prelude.{◌≡◌, ◌≢◌, ◌<◌, ◌≤◌, length, All, slice_index, slice_range};
+ghost use Rattle.std.specs.Prelude.{◌≤◌, ◌<◌, length};
 ghost use Rattle.io.specs.Counts.{IsPrefixLen};
 
 use demands::draw_cuts;
-use listing::least;
 use reader::number::number_of;
 use rules::{RECORD_SIZE, STORE_SIZE};
 use std::fs::File;
@@ -16,13 +15,13 @@ use std::io;
 use std::io::Read;
 use std::rt::Files;
 
+// Fixed buffers: a longer file is read as far as there is room, and lists otherwise than its listing.
+
 // No path of a stored file is longer.
 const PATH_SIZE: usize = 4096;
 
 // No index is longer.
 const INDEX_SIZE: usize = 4096;
-
-const LINE_END: u8 = b'\n';
 
 // No stored page is longer.
 const PAGE_SIZE: usize = 16384;
@@ -44,93 +43,69 @@ const PART_SIZE: usize = 100 * RECORD_SIZE;
 // All the records, and the largest buffer after them.
 const OUTPUT_SIZE: usize = RECORDS * RECORD_SIZE + 4000;
 
-// How much of a listing the text so far agrees with.
+// A stored page with its name and its listing.
 #[derive(Clone, Copy)]
-enum Met {
-    Upto(usize),
-    Differs,
+struct Stored<'a> {
+    name: &'a [u8],
+    page: &'a [u8],
+    listing: &'a [u8],
 }
 
-fn meet(listing: &[u8], met: usize, text: &[u8]) -> Met {
-    let mut at = met;
-    let mut i = 0;
-    while i < text.len() {
-        if listing.len() <= at {
-            return Met::Differs;
-        }
-        if listing[at] != text[i] {
-            return Met::Differs;
-        }
-        at += 1;
-        i += 1;
-    }
-    Met::Upto(at)
-}
-
-fn meet_lines(listing: &[u8], met: usize, records: &[u8]) -> Met
+// What a listing has after the lines of the records, if it begins with them.
+fn after_lines<'a>(listing: &'a [u8], records: &[u8]) -> Option<&'a [u8]>
     requires { length records.now ≤ 4000 }
 {
     let mut text = [0u8; 12800];
     let n = listing::put_lines(&mut text, records, records.len());
-    meet(listing, met, &text[..n])
+    listing.strip_prefix(&text[..n])
 }
 
-fn meet_closing(listing: &[u8], met: usize, number: u8, steps: u32) -> Met {
+fn after_records<'a>(listing: &'a [u8], records: &[u8]) -> Option<&'a [u8]> {
+    let mut rest = listing;
+    for part in records.chunks(PART_SIZE) {
+        rest = after_lines(rest, part)?;
+    }
+    Some(rest)
+}
+
+fn is_closing(rest: &[u8], number: u8, steps: u32) -> bool {
     let mut text = [0u8; 32];
     let n = listing::put_closing(&mut text, number, steps);
-    meet(listing, met, &text[..n])
-}
-
-fn meet_records(listing: &[u8], records: &[u8]) -> Met {
-    let mut met: usize = 0;
-    let mut at: usize = 0;
-    while at < records.len() {
-        let to = at + least(PART_SIZE, records.len() - at);
-        let part = meet_lines(listing, met, &records[at..to]);
-        let Met::Upto(more) = part else {
-            return Met::Differs;
-        };
-        met = more;
-        at = to;
-    }
-    Met::Upto(met)
+    rest == &text[..n]
 }
 
 // Whether the listing is the lines of the records and the closing line.
 fn lists(listing: &[u8], records: &[u8], number: u8, steps: u32) -> bool {
-    let lines = meet_records(listing, records);
-    let Met::Upto(met) = lines else {
-        return false;
-    };
-    let closing = meet_closing(listing, met, number, steps);
-    let Met::Upto(met) = closing else {
-        return false;
-    };
-    met == listing.len()
+    match after_records(listing, records) {
+        Some(rest) => is_closing(rest, number, steps),
+        None => false,
+    }
 }
 
-// Whether a page, read by calls of these lengths into these rooms, gives its listing.
-fn gives(page: &[u8], listing: &[u8], lengths: &[usize], rooms: &[usize]) -> bool {
+// Whether the page, read by calls of these lengths into these rooms, gives its listing.
+fn gives(stored: Stored, lengths: &[usize], rooms: &[usize]) -> bool {
     let mut store = [0u8; STORE_SIZE];
     let mut out = [0u8; OUTPUT_SIZE];
-    let drawn = draw_cuts(u32::MAX, &mut store, page, lengths, rooms, &mut out);
-    let answer = drawn.answer;
-    let session = drawn.session;
-    let written = drawn.written;
-    lists(listing, &out[..written], number_of(answer), session.steps)
+    let drawn = draw_cuts(u32::MAX, &mut store, stored.page, lengths, rooms, &mut out);
+    lists(
+        stored.listing,
+        &out[..drawn.written],
+        number_of(drawn.answer),
+        drawn.session.steps,
+    )
 }
 
 // Whether it does so in pieces of `cut` bytes and buffers of `buffer` bytes. A call for each piece and for each record is enough,
 // since one that answers full wrote a record. Were they too few, or had the records no room, the last answer would be full, which
 // no listing has.
-fn agrees(page: &[u8], listing: &[u8], cut: usize, buffer: usize) -> bool
+fn agrees(stored: Stored, cut: usize, buffer: usize) -> bool
     requires { 0 < cut }
 {
     let lengths = [cut; CALLS];
     let rooms = [buffer; CALLS];
-    let pieces = least(page.len() / cut, PAGE_SIZE);
-    let calls = pieces + least(listing.len() / LINE_SIZE, RECORDS) + 1;
-    gives(page, listing, &lengths[..calls], &rooms[..calls])
+    let pieces = (stored.page.len() / cut).min(PAGE_SIZE);
+    let calls = pieces + (stored.listing.len() / LINE_SIZE).min(RECORDS) + 1;
+    gives(stored, &lengths[..calls], &rooms[..calls])
 }
 
 fn print_differs(rt: &impl Print, name: &[u8], how: &[u8], bytes: usize) -> io::Result<()> {
@@ -139,71 +114,51 @@ fn print_differs(rt: &impl Print, name: &[u8], how: &[u8], bytes: usize) -> io::
     rt.print(bytes)
 }
 
-fn compare(
-    rt: &impl Print,
-    name: &[u8],
-    page: &[u8],
-    listing: &[u8],
-    cut: usize,
-    buffer: usize,
-) -> io::Result<()>
+fn compare(rt: &impl Print, stored: Stored, cut: usize, buffer: usize) -> io::Result<()>
     requires { 0 < cut }
 {
-    if agrees(page, listing, cut, buffer) {
+    if agrees(stored, cut, buffer) {
         return Ok(());
     }
-    print_differs(rt, name, b" differs: cut ", cut)?;
+    print_differs(rt, stored.name, b" differs: cut ", cut)?;
     println!(rt; ", buffer {buffer}")
 }
 
 // The page in two pieces, the first of so many bytes, with room for all its records.
-fn compare_place(
-    rt: &impl Print,
-    name: &[u8],
-    page: &[u8],
-    listing: &[u8],
-    place: usize,
-) -> io::Result<()> {
+fn compare_place(rt: &impl Print, stored: Stored, place: usize) -> io::Result<()> {
     let lengths = [place, PAGE_SIZE];
     let rooms = [OUTPUT_SIZE; 2];
-    if gives(page, listing, &lengths, &rooms) {
+    if gives(stored, &lengths, &rooms) {
         return Ok(());
     }
-    print_differs(rt, name, b" differs: cut at ", place)?;
+    print_differs(rt, stored.name, b" differs: cut at ", place)?;
     rt.println("")
 }
 
-fn compare_places(rt: &impl Print, name: &[u8], page: &[u8], listing: &[u8]) -> io::Result<()> {
-    let mut place: usize = 0;
-    while place < page.len() {
-        compare_place(rt, name, page, listing, place)?;
-        place += 1;
+fn compare_places(rt: &impl Print, stored: Stored) -> io::Result<()> {
+    for place in 0..stored.page.len() {
+        compare_place(rt, stored, place)?;
     }
     Ok(())
 }
 
-fn compare_buffers(
-    rt: &impl Print,
-    name: &[u8],
-    page: &[u8],
-    listing: &[u8],
-    cut: usize,
-) -> io::Result<()>
+fn compare_buffers(rt: &impl Print, stored: Stored, cut: usize) -> io::Result<()>
     requires { 0 < cut }
 {
-    compare(rt, name, page, listing, cut, 120)?;
-    compare(rt, name, page, listing, cut, 121)?;
-    compare(rt, name, page, listing, cut, 160)?;
-    compare(rt, name, page, listing, cut, 4000)
+    for buffer in [120, 121, 160, 4000] {
+        compare(rt, stored, cut, buffer)?;
+    }
+    Ok(())
 }
 
-fn compare_cuts(rt: &impl Print, name: &[u8], page: &[u8], listing: &[u8]) -> io::Result<()> {
-    compare_buffers(rt, name, page, listing, PAGE_SIZE)?;
-    compare_buffers(rt, name, page, listing, 1)?;
-    compare_buffers(rt, name, page, listing, 2)?;
-    compare_buffers(rt, name, page, listing, 3)?;
-    compare_buffers(rt, name, page, listing, 7)?;
-    compare_buffers(rt, name, page, listing, 64)
+// Call by call, since each has to show that its cut is over 0, which the items of an array would not.
+fn compare_cuts(rt: &impl Print, stored: Stored) -> io::Result<()> {
+    compare_buffers(rt, stored, PAGE_SIZE)?;
+    compare_buffers(rt, stored, 1)?;
+    compare_buffers(rt, stored, 2)?;
+    compare_buffers(rt, stored, 3)?;
+    compare_buffers(rt, stored, 7)?;
+    compare_buffers(rt, stored, 64)
 }
 
 // A path that has no room for a part goes without it, and names no file.
@@ -238,7 +193,8 @@ fn open<R: Files>(rt: &R, path: &[u8]) -> io::Result<R::File> {
     }
 }
 
-// Reads until there is no more room or no more to read. A read that fails is said on standard error and ends it.
+// Reads until there is no more room or no more to read. A read that fails is said on standard error and ends it. `read_to_end` would
+// take a longer file whole, which is cut here.
 fn read_full(rt: &impl Eprint, path: &[u8], file: &mut impl Read, into: &mut [u8]) -> usize
     ensures { IsPrefixLen result into.new }
 {
@@ -256,48 +212,41 @@ fn read_full(rt: &impl Eprint, path: &[u8], file: &mut impl Read, into: &mut [u8
     done
 }
 
-// The bytes of a file, as many as there is room for, and how many. A file that cannot be opened is said on standard error.
-fn load(
+// The bytes of a file, as many as there is room for. A file that cannot be opened is said on standard error, and has none.
+fn load<'a>(
     rt: &(impl Files + Eprint),
     group: &[u8],
     name: &[u8],
     suffix: &[u8],
-    into: &mut [u8],
-) -> usize
-    ensures { IsPrefixLen result into.new }
-{
+    into: &'a mut [u8],
+) -> &'a [u8] {
     let mut path = [0u8; PATH_SIZE];
     let n = put_path(&mut path, group, name, suffix);
-    match open(rt, &path[..n]) {
+    let done = match open(rt, &path[..n]) {
         Ok(mut file) => read_full(rt, &path[..n], &mut file, into),
         Err(error) => {
             say_failed(rt, &path[..n], error);
             0
         }
-    }
+    };
+    &into[..done]
 }
 
 fn compare_page(rt: &(impl Files + Print + Eprint), group: &[u8], name: &[u8]) -> io::Result<()> {
     let mut page = [0u8; PAGE_SIZE];
-    let n = load(rt, group, name, b".page", &mut page);
     let mut listing = [0u8; LISTING_SIZE];
-    let m = load(rt, group, name, b".listing", &mut listing);
-    compare_cuts(rt, name, &page[..n], &listing[..m])?;
-    compare_places(rt, name, &page[..n], &listing[..m])
+    let stored = Stored {
+        name,
+        page: load(rt, group, name, b".page", &mut page),
+        listing: load(rt, group, name, b".listing", &mut listing),
+    };
+    compare_cuts(rt, stored)?;
+    compare_places(rt, stored)
 }
 
-// Where the line at a place ends: at its line end, or with the text.
-fn line_end(text: &[u8], at: usize) -> usize
-    requires { at ≤ length text.now }
-    ensures lower_bound { at ≤ result }
-    ensures upper_bound { result ≤ length text.now }
-    ensures found { result < length text.now → slice_index text.now result ≡ LINE_END }
-    ensures one_line { All (λ byte. byte ≢ LINE_END) (slice_range text.now at result) }
-{
-    match text[at..].iter().position(|byte| *byte == LINE_END) {
-        Some(n) => at + n,
-        None => text.len(),
-    }
+// A line without its line end, which the last may lack.
+fn name_in(line: &[u8]) -> &[u8] {
+    line.strip_suffix(b"\n").unwrap_or(line)
 }
 
 fn compare_pages(
@@ -306,12 +255,9 @@ fn compare_pages(
     index: &[u8],
 ) -> io::Result<u64> {
     let mut pages: u64 = 0;
-    let mut at: usize = 0;
-    while at < index.len() {
-        let end = line_end(index, at);
-        compare_page(rt, group, &index[at..end])?;
-        pages += 1;
-        at = end + 1;
+    for line in index.split_inclusive(|byte| *byte == b'\n') {
+        compare_page(rt, group, name_in(line))?;
+        pages = pages.saturating_add(1);
     }
     Ok(pages)
 }
@@ -322,8 +268,8 @@ fn print_count(rt: &impl Print, pages: u64) -> io::Result<()> {
 
 fn compare_group(rt: &(impl Files + Print + Eprint), group: &[u8]) -> io::Result<u64> {
     let mut index = [0u8; INDEX_SIZE];
-    let n = load(rt, group, b"index", b"", &mut index);
-    let pages = compare_pages(rt, group, &index[..n])?;
+    let index = load(rt, group, b"index", b"", &mut index);
+    let pages = compare_pages(rt, group, index)?;
     rt.write_all(group)?;
     rt.write_all(b": ")?;
     print_count(rt, pages)?;
@@ -332,18 +278,15 @@ fn compare_group(rt: &(impl Files + Print + Eprint), group: &[u8]) -> io::Result
 
 fn compare_groups(rt: &(impl Files + Print + Eprint), index: &[u8]) -> io::Result<u64> {
     let mut pages: u64 = 0;
-    let mut at: usize = 0;
-    while at < index.len() {
-        let end = line_end(index, at);
-        pages = pages.wrapping_add(compare_group(rt, &index[at..end])?);
-        at = end + 1;
+    for line in index.split_inclusive(|byte| *byte == b'\n') {
+        pages = pages.saturating_add(compare_group(rt, name_in(line))?);
     }
     Ok(pages)
 }
 
 fn main(rt: HostRuntime) -> io::Result<()> {
     let mut index = [0u8; INDEX_SIZE];
-    let n = load(&rt, b".", b"index", b"", &mut index);
-    let pages = compare_groups(&rt, &index[..n])?;
+    let index = load(&rt, b".", b"index", b"", &mut index);
+    let pages = compare_groups(&rt, index)?;
     print_count(&rt, pages)
 }

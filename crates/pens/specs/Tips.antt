@@ -1,5 +1,5 @@
 -- A pen apart from its text
-use Rattle.pens.specs.Prelude.{Bool, true, false}
+use Rattle.std.specs.Prelude.{Bool, true, false}
 use Rattle.rules.specs.declared.Pen.{Pen}
 use Rattle.rules.specs.declared.Point.{Point}
 use Rattle.rules.specs.declared.Text.{Text}

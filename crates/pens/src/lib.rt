@@ -1,5 +1,4 @@
-// A pen apart from its text, and the text in words, which can be lent.
+// A pen apart from its text, which is lent.
 #![tactic(auto)]
 
 pub mod tips;
-pub mod words;

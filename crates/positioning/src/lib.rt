@@ -12,20 +12,16 @@ use text::cursor::set_cursor;
 fn fields(byte: u8, size: u32) -> u64
     ensures { result ≡ (byte - 32) * size }
 {
-    if byte <= 32 {
-        return 0;
-    }
-    (byte - 32) as u64 * size as u64
+    byte.saturating_sub(32) as u64 * size as u64
 }
 
 // APS, once its row and column are read.
+#[tactic(auto, unfolding(rules::specs::Text::addressed))]
 fn addressed(row: u8, column: u8, pen: Pen) -> Pen
     ensures { result ≡ addressed row column pen }
 {
-    let text = pen.text;
-    let field = text.field;
-    let width = magnitude(field.x);
-    let height = magnitude(field.y);
+    let width = magnitude(pen.text.field.x);
+    let height = magnitude(pen.text.field.y);
     let x = Coordinate {
         ahead: fields(column, width),
         back: 0,
@@ -37,22 +33,13 @@ fn addressed(row: u8, column: u8, pen: Pen) -> Pen
     set_cursor(x, y, pen)
 }
 
-// A byte less 64.
-fn from_64(byte: u8) -> u64
-    ensures { (result ≡ byte - 64) × (result ≤ 191) }
-{
-    if byte <= 64 {
-        return 0;
-    }
-    (byte - 64) as u64
-}
-
 // NSR, once its row and column are read.
+#[tactic(auto, unfolding(rules::specs::Text::positioned))]
 fn positioned(row: u8, column: u8, pen: Pen) -> Pen
     ensures { result ≡ positioned row column pen }
 {
-    let right = from_64(column);
-    let down = from_64(row);
+    let right = column.saturating_sub(64) as u64;
+    let down = row.saturating_sub(64) as u64;
     let x = Coordinate {
         ahead: right * FRESH_WIDTH,
         back: 0,

@@ -2,6 +2,7 @@
 use Rattle.progress.specs.Prelude.{ℕ, List}
 use Rattle.rules.specs.declared.Answer.{Answer}
 use Rattle.rules.specs.declared.Answer.TheVariants.{Done, Full, Refused}
+use Rattle.rules.specs.declared.Cursor.{Cursor}
 use Rattle.rules.specs.declared.Drawing.{Drawing}
 use Rattle.rules.specs.declared.Fed.{Fed}
 use Rattle.rules.specs.declared.Session.{Session}
@@ -16,13 +17,13 @@ status_after Done = Running
 status_after Full = Running
 status_after (Refused r) = Stopped r
 
-abbrev pub session_after : Answer → ℕ → Progress → List ℕ → List ℕ → List ℕ → Drawing → Session
-session_after a budget p cells places firsts d =
+abbrev pub session_after : Answer → ℕ → Progress → List Cursor → List ℕ → Drawing → Session
+session_after a budget p cursors firsts d =
     record {
       budget = budget;
       steps = p.steps;
       status = status_after a;
-      bodies = bodies_of p.depth cells places;
+      bodies = bodies_of p.depth cursors;
       coding = coding_of p.sets p.waiting firsts;
       drawing = d;
     }

@@ -1,10 +1,10 @@
 -- How far a reading has come, and each way in which it goes on
 use Rattle.std.specs.Prelude.{◌+◌}
 use Rattle.progress.specs.Prelude.{ℕ, zero, suc}
+use Rattle.rules.specs.declared.Drawing.{Drawing}
 use Rattle.rules.specs.declared.Sets.{Sets}
 use Rattle.rules.specs.declared.Waiting.{Waiting}
 use Rattle.rules.specs.declared.Session.{Session}
-use Rattle.figures.specs.declared.Drawn.{Drawn}
 use Rattle.pens.specs.Tips.{tip_of}
 use Rattle.progress.specs.declared.Progress.{Progress}
 use Rattle.progress.specs.declared.Reached.{Reached}
@@ -78,6 +78,6 @@ coded_on n d s x p =
       waiting = x;
     }
 
--- With an action drawn
-abbrev pub drawn_to : Drawn → Progress → Reached
-drawn_to r p = record { progress = written_to r.at p; tip = tip_of r.pen; command = r.command; look = r.look }
+-- With an action drawn, its records written up to a place
+abbrev pub drawn_to : ℕ → Drawing → Progress → Reached
+drawn_to n d p = record { progress = written_to n p; tip = tip_of d.pen; command = d.command; look = d.look }

@@ -7,33 +7,24 @@ ghost use Rattle.progress.specs.Handing.{status_after, session_after, fed_of};
 
 use crate::{Progress, Reached};
 use pens::tips::{pen_of, tip_of};
-use rules::{Answer, Bodies, Coding, Drawing, Fed, Session, Status, Text};
+use rules::{Answer, Bodies, Coding, Cursor, Drawing, Fed, Session, Status, Text};
 
 // Where a reading starts from a session.
 pub fn start(session: Session) -> Reached
     ensures { result ≡ start_of session }
 {
-    let bodies = session.bodies;
-    let coding = session.coding;
-    let sets = coding.sets;
-    let waiting = coding.waiting;
-    let drawing = session.drawing;
-    let tip = tip_of(drawing.pen);
-    let command = drawing.command;
-    let look = drawing.look;
-    let progress = Progress {
-        at: 0,
-        written: 0,
-        sets,
-        waiting,
-        steps: session.steps,
-        depth: bodies.depth,
-    };
     Reached {
-        progress,
-        tip,
-        command,
-        look,
+        progress: Progress {
+            at: 0,
+            written: 0,
+            sets: session.coding.sets,
+            waiting: session.coding.waiting,
+            steps: session.steps,
+            depth: session.bodies.depth,
+        },
+        tip: tip_of(session.drawing.pen),
+        command: session.drawing.command,
+        look: session.drawing.look,
     }
 }
 
@@ -41,8 +32,7 @@ fn status_after(answer: Answer) -> Status
     ensures { result ≡ status_after answer }
 {
     match answer {
-        Answer::Done => Status::Running,
-        Answer::Full => Status::Running,
+        Answer::Done | Answer::Full => Status::Running,
         Answer::Refused(refusal) => Status::Stopped(refusal),
     }
 }
@@ -53,41 +43,33 @@ pub fn finish(
     budget: u32,
     reached: Reached,
     text: Text,
-    cells: [u8; 8],
-    places: [u8; 8],
+    cursors: [Cursor; 8],
     firsts: [u8; 96],
     map: [u8; 48],
 ) -> Fed
     ensures { result
         ≡ fed_of answer reached.progress
-        (session_after answer budget reached.progress cells places firsts
+        (session_after answer budget reached.progress cursors firsts
         (drawing_of (pen_of text reached.tip) reached.command reached.look map)) }
 {
     let progress = reached.progress;
-    let pen = pen_of(text, reached.tip);
-    let command = reached.command;
-    let look = reached.look;
-    let sets = progress.sets;
-    let waiting = progress.waiting;
-    let status = status_after(answer);
     let session = Session {
         budget,
         steps: progress.steps,
-        status,
+        status: status_after(answer),
         bodies: Bodies {
             depth: progress.depth,
-            cells,
-            places,
+            cursors,
         },
         coding: Coding {
-            sets,
-            waiting,
+            sets: progress.sets,
+            waiting: progress.waiting,
             firsts,
         },
         drawing: Drawing {
-            pen,
-            command,
-            look,
+            pen: pen_of(text, reached.tip),
+            command: reached.command,
+            look: reached.look,
             map,
         },
     };

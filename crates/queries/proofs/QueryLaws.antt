@@ -1,8 +1,8 @@
 -- What is unread of a piece; and all that is promised of a colour
-use Rattle.std.specs.Prelude.{◌≡◌, ◌-◌}
+use Rattle.std.specs.Prelude.{◌≡◌, ◌-◌, Result}
 use Rattle.queries.proofs.Prelude.{refl, sym, ap, ◌∙◌, Bool, true, false, List, ℕ, min, arith, leb, length, take, drop, length-drop, drop_of_length-le, take_all, leb-true, leb-false}
 use Rattle.rules.specs.declared.Session.{Session}
-use Rattle.rules.specs.declared.Shade.{Shade}
+use Rattle.rules.specs.declared.Refusal.{Refusal}
 use Rattle.rules.specs.Calls.{colour, shade_number, shade_values, unread}
 use Rattle.rules.specs.Promises.{Shades}
 
@@ -20,5 +20,5 @@ unread_part piece consumed from e =
         drop_of_length-le piece {i = from} (omega arith) ∙ sym (drop_of_length-le piece {i = consumed} (omega arith))
 
 -- The number and the values of a colour follow from the colour; `shade_tells` (rules, Numbers) says that they determine it
-pub shades : {s : Session} {address : ℕ} {r : Shade} → r ≡ colour s address → Shades s address r
+pub shades : {s : Session} {address : ℕ} {r : Result (List ℕ) Refusal} → r ≡ colour s address → Shades s address r
 shades e = record { number = ap shade_number e; values = ap shade_values e; same = e }

@@ -2,8 +2,9 @@
 ghost use Rattle.std.specs.Prelude.{◌≡◌};
 ghost use Rattle.rules.specs.Calls.{refusal_number, number_of, shade_number, shade_values};
 
-use rules::{Answer, Refusal, Shade};
+use rules::{Answer, Refusal};
 
+#[tactic(auto, unfolding(rules::specs::Calls::refusal_number))]
 fn refusal_number(refusal: Refusal) -> u8
     ensures { result ≡ refusal_number refusal }
 {
@@ -25,6 +26,7 @@ fn refusal_number(refusal: Refusal) -> u8
     }
 }
 
+#[tactic(auto, unfolding(rules::specs::Calls::number_of))]
 pub fn number_of(answer: Answer) -> u8
     ensures { result ≡ number_of answer }
 {
@@ -35,21 +37,20 @@ pub fn number_of(answer: Answer) -> u8
     }
 }
 
-pub fn shade_number(shade: Shade) -> u8
+#[tactic(auto, unfolding(rules::specs::Calls::shade_number))]
+pub fn shade_number(shade: Result<[u8; 3], Refusal>) -> u8
     ensures { result ≡ shade_number shade }
 {
     match shade {
-        Shade::Of(_, _, _) => 0,
-        Shade::NoAddress => refusal_number(Refusal::AddressOver15),
+        Ok(_) => 0,
+        Err(refusal) => refusal_number(refusal),
     }
 }
 
 // G, R and B; zero where there is no such address.
-pub fn shade_values(shade: Shade) -> [u8; 3]
+#[tactic(auto, unfolding(rules::specs::Calls::shade_values))]
+pub fn shade_values(shade: Result<[u8; 3], Refusal>) -> [u8; 3]
     ensures { result ≡ shade_values shade }
 {
-    match shade {
-        Shade::Of(green, red, blue) => [green, red, blue],
-        Shade::NoAddress => [0, 0, 0],
-    }
+    shade.unwrap_or([0, 0, 0])
 }

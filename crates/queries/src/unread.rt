@@ -6,10 +6,7 @@ ghost use Rattle.rules.specs.Calls.{unread};
 pub fn unread_from(piece: &[u8], consumed: usize) -> usize
     ensures { result ≡ min consumed (length piece.now) }
 {
-    if piece.len() <= consumed {
-        return piece.len();
-    }
-    consumed
+    consumed.min(piece.len())
 }
 
 pub fn unread<'a>(piece: &'a [u8], consumed: usize) -> &'a [u8]

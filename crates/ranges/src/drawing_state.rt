@@ -1,12 +1,11 @@
 // Which drawing states are in range.
-ghost use Rattle.std.specs.Prelude.{◌≡◌, ◌&&◌, List, ℕ, leb};
+ghost use Rattle.std.specs.Prelude.{◌≡◌, ◌&&◌, leb};
 ghost use Rattle.rules.specs.Drawing.{row_of, role_of, length_of};
 ghost use Rattle.rules.specs.Ranges.{domain_fits, colour_fits, opcode_fits, vertices_fit, command_fits, begun_fits, drawing_fits};
-ghost use Rattle.figures.specs.Carried.{drawing_of};
 
 use data_bytes::role_due;
 use opcodes::{length_of, row_of};
-use rules::{Colour, Command, Domain, Look, MOST_VERTICES, Pen};
+use rules::{Colour, Command, Domain, Drawing, MOST_VERTICES};
 
 fn within(low: u8, n: u8, high: u8) -> bool
     ensures { result ≡ (leb low n && leb n high) }
@@ -46,24 +45,23 @@ fn command_fits(c: Command) -> bool
 }
 
 // No operand is begun, or one with fewer bytes than the operand that is due has by its role.
-fn operand_fits(pen: Pen, command: Command, domain: Domain) -> bool
-    ensures { result ≡ begun_fits pen.operand.count
-        (length_of (role_of (row_of command.opcode).pattern command.due) domain) }
+fn operand_fits(drawing: Drawing) -> bool
+    ensures { result ≡ begun_fits drawing.pen.operand.count
+        (length_of (role_of (row_of drawing.command.opcode).pattern drawing.command.due) drawing.look.domain) }
 {
-    let count = pen.operand.count;
+    let count = drawing.pen.operand.count;
     if count == 0 {
         return true;
     }
+    let command = drawing.command;
     let row = row_of(command.opcode);
-    let role = role_due(row, command);
-    count < length_of(role, domain)
+    count < length_of(role_due(row, command), drawing.look.domain)
 }
 
-pub(crate) fn drawing_fits(pen: Pen, command: Command, look: Look) -> bool
-    ensures { (m : List ℕ) → result ≡ drawing_fits (drawing_of pen command look m) }
+pub(crate) fn drawing_fits(drawing: Drawing) -> bool
+    ensures { result ≡ drawing_fits drawing }
 {
-    let domain = look.domain;
-    let colour = look.colour;
-    domain_fits(domain)
-        && (colour_fits(colour) && (command_fits(command) && operand_fits(pen, command, domain)))
+    domain_fits(drawing.look.domain)
+        && (colour_fits(drawing.look.colour)
+            && (command_fits(drawing.command) && operand_fits(drawing)))
 }

@@ -9,78 +9,54 @@ ghost use Rattle.std.specs.Prelude.{◌≡◌, true, eqb};
 ghost use Rattle.rules.specs.Numbers.{store_size};
 ghost use Rattle.rules.specs.Ranges.{fits};
 ghost use Rattle.rules.specs.Reading.{verdict};
-ghost use Rattle.ranges.specs.Order.{in_order};
 
 use crate::drawing_state::drawing_fits;
 use crate::stack::bodies_fit;
 use crate::waiting::waiting_fits;
-use rules::{Refusal, STORE_SIZE, Session, Status, Verdict};
+use rules::{Refusal, STORE_SIZE, Session, Status};
 
 fn fits(session: Session) -> bool
     ensures { result ≡ fits session }
 {
-    let bodies = session.bodies;
-    let coding = session.coding;
-    let drawing = session.drawing;
-    let places = bodies.places;
-    let waiting = coding.waiting;
-    let pen = drawing.pen;
-    let command = drawing.command;
-    let look = drawing.look;
-    if !bodies_fit(bodies.depth, &places) {
-        return false;
-    }
-    waiting_fits(waiting) && drawing_fits(pen, command, look)
+    bodies_fit(session.bodies)
+        && (waiting_fits(session.coding.waiting) && drawing_fits(session.drawing))
 }
 
 // 12: the size of the store.
-fn of_size(size: usize) -> Verdict
+fn of_size(size: usize) -> Result<(), Refusal>
     ensures { result ≡ verdict (eqb size store_size) Status.Running true }
 {
     if size != STORE_SIZE {
-        return Verdict::Fails(Refusal::StoreSize);
+        return Err(Refusal::StoreSize);
     }
-    Verdict::Passes
+    Ok(())
 }
 
 // 14, or what stopped the session.
-fn of_status(status: Status) -> Verdict
+fn of_status(status: Status) -> Result<(), Refusal>
     ensures { result ≡ verdict true status true }
 {
     match status {
-        Status::Running => Verdict::Passes,
-        Status::Ended => Verdict::Fails(Refusal::AfterEnd),
-        Status::Stopped(refusal) => Verdict::Fails(refusal),
+        Status::Running => Ok(()),
+        Status::Ended => Err(Refusal::AfterEnd),
+        Status::Stopped(refusal) => Err(refusal),
     }
 }
 
 // 13: the fields of the session.
-fn of_ranges(session: Session) -> Verdict
+fn of_ranges(session: Session) -> Result<(), Refusal>
     ensures { result ≡ verdict true Status.Running (fits session) }
 {
     if fits(session) {
-        return Verdict::Passes;
+        return Ok(());
     }
-    Verdict::Fails(Refusal::OutOfRange)
+    Err(Refusal::OutOfRange)
 }
 
-// Two tests, the second where the first passes.
-fn in_order(first: Verdict, second: Verdict) -> Verdict
-    ensures { result ≡ in_order first second }
-{
-    match first {
-        Verdict::Fails(refusal) => Verdict::Fails(refusal),
-        Verdict::Passes => second,
-    }
-}
-
-pub fn verdict(session: Session, size: usize) -> Verdict
+pub fn verdict(session: Session, size: usize) -> Result<(), Refusal>
     ensures { result ≡ verdict (eqb size store_size) session.status (fits session) }
 {
-    let sized = of_size(size);
-    let status = session.status;
-    let open = of_status(status);
-    let ranges = of_ranges(session);
-    let first = in_order(sized, open);
-    in_order(first, ranges)
+    of_size(size)?;
+    of_status(session.status)?;
+    of_ranges(session)
 }

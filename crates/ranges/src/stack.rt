@@ -1,26 +1,18 @@
 // Which stacks of running bodies are in range.
-ghost use Rattle.std.specs.Prelude.{◌≡◌, List, ℕ};
+ghost use Rattle.std.specs.Prelude.{◌≡◌};
 ghost use Rattle.rules.specs.Ranges.{places_fit, bodies_fit};
-ghost use Rattle.bodies.specs.Stack.{bodies_of};
 
-use rules::{MOST_BYTES, MOST_DEPTH};
+use rules::{Bodies, Cursor, MOST_BYTES, MOST_DEPTH};
 
-fn places_fit(places: &[u8]) -> bool
-    ensures { result ≡ places_fit places.now }
+fn places_fit(cursors: &[Cursor]) -> bool
+    ensures { result ≡ places_fit cursors.now }
 {
-    let mut i = 0;
-    while i < places.len() {
-        if MOST_BYTES < places[i] {
-            return false;
-        }
-        i += 1;
-    }
-    true
+    cursors.iter().all(|cursor| cursor.place <= MOST_BYTES)
 }
 
-// Whether a lent stack is in range. Its cells are bytes, so each names a cell of the store.
-pub(crate) fn bodies_fit(depth: u8, places: &[u8; 8]) -> bool
-    ensures { (cells : List ℕ) → result ≡ bodies_fit (bodies_of depth cells places.now) }
+// Cells are bytes, so each names a cell of the store.
+pub(crate) fn bodies_fit(bodies: Bodies) -> bool
+    ensures { result ≡ bodies_fit bodies }
 {
-    depth <= MOST_DEPTH && places_fit(places)
+    bodies.depth <= MOST_DEPTH && places_fit(&bodies.cursors)
 }

@@ -21,8 +21,7 @@ pub(crate) fn waiting_fits(w: Waiting) -> bool
     ensures { result ≡ waiting_fits w }
 {
     match w {
-        Waiting::Body(d) => name_fits(d),
-        Waiting::BodyEscape(d) => name_fits(d),
+        Waiting::Body(d) | Waiting::BodyEscape(d) => name_fits(d),
         Waiting::Column(_, row) => row_fits(row),
         _ => true,
     }

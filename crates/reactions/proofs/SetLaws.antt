@@ -3,11 +3,9 @@ use Rattle.std.specs.Prelude.{◌≡◌, ◌∷◌}
 use Rattle.reactions.specs.Prelude.{refl, List, [], ℕ, eqb}
 use types.Run.{OneOf, miss}
 use denote.Enum.Declared.{tag_of}
-use Rattle.rules.specs.contracts.Action.{the_type as the-action}
 use Rattle.reactions.specs.contracts.Effect.{the_type as the-effect}
 use Rattle.rules.proofs.Bools.{pick_all}
 use Rattle.rules.specs.declared.Action.{Action}
-use Rattle.rules.specs.declared.Action.TheVariants.{Idle, Close, Control, Cancel, Format, Reset, Position, Character, Opcode, Data}
 use Rattle.rules.specs.declared.Control.TheVariants.{Positions}
 use Rattle.rules.specs.declared.Positioning.{Positioning}
 use Rattle.rules.specs.declared.Positioning.TheVariants.{Aps, Nsr}
@@ -19,24 +17,9 @@ use Rattle.rules.specs.declared.Waiting.TheVariants.{Nothing, Row}
 use Rattle.rules.specs.Coding.{React, positioning_action, control, character, graphic}
 use Rattle.reactions.specs.View.{coding_of, reset_sets, sets_after}
 use Rattle.reactions.specs.declared.Effect.{Effect}
-use Rattle.reactions.specs.declared.Effect.TheVariants.{Refuses, Calls, Acts, Uses, Designates}
+use Rattle.reactions.specs.declared.Effect.TheVariants.{Calls, Acts, Uses, Designates}
 
--- The sets after an action: only that of NSR resets them
-abbrev no_reset : List ℕ
-no_reset = 0 ∷ 1 ∷ 2 ∷ 3 ∷ 4 ∷ 6 ∷ 7 ∷ 8 ∷ 9 ∷ []
-
-pub others_keep : (a : Action) (s : Sets) → OneOf no_reset (tag_of the-action a) → s ≡ reset_sets a s
-others_keep Idle s h = refl
-others_keep Close s h = refl
-others_keep (Control b) s h = refl
-others_keep (Cancel b) s h = refl
-others_keep (Format f b) s h = refl
-others_keep (Reset b) s h = absurd (miss no_reset 5 tt h)
-others_keep (Position x r c) s h = refl
-others_keep (Character x b) s h = refl
-others_keep (Opcode b) s h = refl
-others_keep (Data b) s h = refl
-
+-- A character's action resets no sets
 character_keeps : (x : Repertoire) (b : ℕ) (s : Sets) → reset_sets (character x b) s ≡ s
 unfolding character
 character_keeps Primary b s = pick_all (λ a. reset_sets a s ≡ s) (eqb b 127) refl refl
@@ -57,13 +40,12 @@ unfolding control
 row_due Aps b s f st = refl
 row_due Nsr b s f st = refl
 
--- The sets after an effect: most leave them
+-- The sets after an effect: a call leaves them
 abbrev no_change : List ℕ
-no_change = 0 ∷ 1 ∷ []
+no_change = 0 ∷ []
 
 pub others_leave : (e : Effect) (s : Sets) → OneOf no_change (tag_of the-effect e) → s ≡ sets_after e s
-others_leave (Refuses r) s h = refl
 others_leave (Calls n) s h = refl
-others_leave (Acts a) s h = absurd (miss no_change 2 tt h)
-others_leave (Uses e) s h = absurd (miss no_change 3 tt h)
-others_leave (Designates e x) s h = absurd (miss no_change 4 tt h)
+others_leave (Acts a) s h = absurd (miss no_change 1 tt h)
+others_leave (Uses e) s h = absurd (miss no_change 2 tt h)
+others_leave (Designates e x) s h = absurd (miss no_change 3 tt h)

@@ -1,3 +1,3 @@
 -- What the files of this crate use of the libraries, under one name
 pub use Rattle.std.specs.Prelude.{refl, List, [], ℕ, eqb}
-pub use Rattle.std.proofs.Common.{◌∙◌, lt-ltb, le-ltb, rules}
+pub use Rattle.std.proofs.Common.{◌∙◌, rules}

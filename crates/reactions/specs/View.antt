@@ -1,6 +1,7 @@
 -- What the functions of the coding layer are handed and answer, as the rules have it
-use Rattle.std.specs.Prelude.{◌≡◌}
+use Rattle.std.specs.Prelude.{◌≡◌, Result, Ok, Err}
 use Rattle.reactions.specs.Prelude.{ℕ, List}
+use Rattle.rules.specs.declared.Refusal.{Refusal}
 use Rattle.rules.specs.declared.Set.{Set}
 use Rattle.rules.specs.declared.Sets.{Sets}
 use Rattle.rules.specs.declared.Waiting.{Waiting}
@@ -12,7 +13,7 @@ use Rattle.rules.specs.declared.Action.TheVariants.{Idle, Close, Control, Cancel
 use Rattle.rules.specs.declared.Coding.{Coding}
 use Rattle.rules.specs.Coding.{Reaction, Refuse, Call, React, in_use, designate, wait, fresh_sets, control, graphic}
 use Rattle.reactions.specs.declared.Effect.{Effect}
-use Rattle.reactions.specs.declared.Effect.TheVariants.{Refuses, Calls, Acts, Uses, Designates}
+use Rattle.reactions.specs.declared.Effect.TheVariants.{Calls, Acts, Uses, Designates}
 use Rattle.reactions.specs.declared.Reacted.{Reacted}
 
 -- The state in the parts that functions take, the first cells lent beside them
@@ -21,7 +22,6 @@ coding_of s w f = record { sets = s; waiting = w; firsts = f }
 
 -- An effect with the state and the store left
 abbrev pub effect_on : Effect → Coding → List ℕ → Reaction
-effect_on (Refuses r) c st = Refuse r
 effect_on (Calls n) c st = Call c n
 effect_on (Acts a) c st = React c st a
 effect_on (Uses e) c st = React c st Idle
@@ -42,7 +42,6 @@ reset_sets (Data b) s = s
 
 -- The sets after an effect
 abbrev pub sets_after : Effect → Sets → Sets
-sets_after (Refuses r) s = s
 sets_after (Calls n) s = s
 sets_after (Acts a) s = reset_sets a s
 sets_after (Uses e) s = in_use e s
@@ -52,9 +51,13 @@ sets_after (Designates e x) s = designate e x s
 abbrev pub reaction_of : Sets → Reacted → List ℕ → List ℕ → Reaction
 reaction_of s r f st = effect_on r.effect (coding_of (sets_after r.effect s) r.waiting f) st
 
--- "A refused step changes nothing", and neither does a call, an element put in use or a set designated: what is left is what was lent
+-- or a refusal
+abbrev pub answer_of : Sets → Result Reacted Refusal → List ℕ → List ℕ → Reaction
+answer_of s (Ok r) f st = reaction_of s r f st
+answer_of s (Err x) f st = Refuse x
+
+-- A call changes nothing of first cells and store, and neither does an element put in use or a set designated: what is left is what was lent
 abbrev pub AsLentBy : Effect → List ℕ → List ℕ → Type 0
-AsLentBy (Refuses r) lent left = left ≡ lent
 AsLentBy (Calls n) lent left = left ≡ lent
 AsLentBy (Acts a) lent left = Unit
 AsLentBy (Uses e) lent left = left ≡ lent

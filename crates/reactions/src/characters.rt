@@ -9,6 +9,7 @@ use rules::{Action, Class, Control, Set, Sets, Waiting};
 use tables::controls::class_of;
 use tables::sets::character;
 
+#[tactic(auto, unfolding(rules::specs::Coding::control))]
 pub(crate) fn control(k: Control, byte: u8) -> Reacted
     ensures { (s : Sets) (f st : List ℕ) → reaction_of s result f st ≡ control k (coding_of s Waiting.Nothing f) st byte }
 {
@@ -25,6 +26,7 @@ pub(crate) fn control(k: Control, byte: u8) -> Reacted
 }
 
 // A byte of the PDI set.
+#[tactic(auto, unfolding(rules::specs::Coding::graphic))]
 fn pdi(byte: u8) -> Reacted
     ensures { (s : Sets) (f st : List ℕ) → reaction_of s result f st ≡ graphic Set.Pdi (coding_of s Waiting.Nothing f) st byte }
 {
@@ -34,6 +36,7 @@ fn pdi(byte: u8) -> Reacted
     act(Action::Data(byte))
 }
 
+#[tactic(auto, unfolding(rules::specs::Coding::graphic))]
 fn graphic(set: Set, byte: u8) -> Reacted
     ensures { (s : Sets) (f st : List ℕ) → reaction_of s result f st ≡ graphic set (coding_of s Waiting.Nothing f) st byte }
 {
@@ -45,13 +48,13 @@ fn graphic(set: Set, byte: u8) -> Reacted
 }
 
 // A byte read by itself: a control, or one of the set. A control drops the single shift.
+#[tactic(auto, unfolding(crate::specs::View::read_from))]
 pub fn read_from(set: Set, byte: u8) -> Reacted
     ensures { (s : Sets) (w : Waiting) (f st : List ℕ)
         → reaction_of s result f st ≡ read_from set (class_of byte) (coding_of s w f) st byte }
 {
     match class_of(byte) {
         Class::Below(k) => control(k, byte),
-        Class::Column2 => graphic(set, byte),
-        Class::Above => graphic(set, byte),
+        Class::Column2 | Class::Above => graphic(set, byte),
     }
 }

@@ -2,50 +2,54 @@
 ghost use Rattle.std.specs.Prelude.{List, ◌≡◌, ℕ};
 ghost use Rattle.rules.specs.declared.Sets.{Sets};
 ghost use Rattle.rules.specs.Coding.{escape, designation, class_of, react_to};
-ghost use Rattle.reactions.specs.View.{coding_of, reaction_of};
+ghost use Rattle.reactions.specs.View.{coding_of, reaction_of, answer_of};
 
 use crate::characters::control;
-use crate::{Reacted, act, designate_set, refuse, use_element, wait_for};
-use rules::{Action, Class, Designated, Element, Final, Refusal, Waiting};
+use crate::{Reacted, act, designate_set, use_element, wait_for};
+use rules::{Action, Class, Element, Final, Refusal, Set, Waiting};
 use tables::controls::class_of;
 use tables::escapes::{designated_by, designator_of, final_of};
 
 // The final byte of a two-byte escape sequence.
-fn escape(last: Final) -> Reacted
-    ensures { (s : Sets) (f st : List ℕ) → reaction_of s result f st ≡ escape last (coding_of s Waiting.Nothing f) st }
+#[tactic(auto, unfolding(rules::specs::Coding::escape))]
+fn escape(last: Final) -> Result<Reacted, Refusal>
+    ensures { (s : Sets) (f st : List ℕ) → answer_of s result f st ≡ escape last (coding_of s Waiting.Nothing f) st }
 {
     match last {
-        Final::Opens => wait_for(Waiting::Name),
-        Final::Refuses => refuse(Refusal::Unsupported),
-        Final::UsesG2 => use_element(Element::G2),
-        Final::UsesG3 => use_element(Element::G3),
-        Final::Closes => act(Action::Close),
-        Final::NoMeaning => wait_for(Waiting::Nothing),
+        Final::Opens => Ok(wait_for(Waiting::Name)),
+        Final::Refuses => Err(Refusal::Unsupported),
+        Final::UsesG2 => Ok(use_element(Element::G2)),
+        Final::UsesG3 => Ok(use_element(Element::G3)),
+        Final::Closes => Ok(act(Action::Close)),
+        Final::NoMeaning => Ok(wait_for(Waiting::Nothing)),
     }
 }
 
-fn designation(designated: Designated, element: Element) -> Reacted
+#[tactic(auto, unfolding(rules::specs::Coding::designation))]
+fn designation(designated: Option<Set>, element: Element) -> Reacted
     ensures { (s : Sets) (f st : List ℕ)
         → reaction_of s result f st ≡ designation designated element (coding_of s Waiting.Nothing f) st }
 {
     match designated {
-        Designated::Unassigned => wait_for(Waiting::Nothing),
-        Designated::Names(set) => designate_set(element, set),
+        None => wait_for(Waiting::Nothing),
+        Some(set) => designate_set(element, set),
     }
 }
 
 // The byte after ESC.
-pub fn in_escape(byte: u8) -> Reacted
+#[tactic(auto, unfolding(rules::specs::Coding::react_to))]
+pub fn in_escape(byte: u8) -> Result<Reacted, Refusal>
     ensures { (s : Sets) (f st : List ℕ)
-        → reaction_of s result f st ≡ react_to Waiting.Escape (class_of byte) (coding_of s Waiting.Escape f) st byte }
+        → answer_of s result f st ≡ react_to Waiting.Escape (class_of byte) (coding_of s Waiting.Escape f) st byte }
 {
     match class_of(byte) {
-        Class::Below(k) => control(k, byte),
-        Class::Column2 => wait_for(designator_of(byte)),
+        Class::Below(k) => Ok(control(k, byte)),
+        Class::Column2 => Ok(wait_for(designator_of(byte))),
         Class::Above => escape(final_of(byte)),
     }
 }
 
+#[tactic(auto, unfolding(rules::specs::Coding::react_to))]
 pub fn in_designation(element: Element, byte: u8) -> Reacted
     ensures { (s : Sets) (f st : List ℕ)
         → reaction_of s result f st
@@ -59,6 +63,7 @@ pub fn in_designation(element: Element, byte: u8) -> Reacted
 }
 
 // A longer sequence has no meaning; its end is looked for.
+#[tactic(auto, unfolding(rules::specs::Coding::react_to))]
 pub fn in_longer(byte: u8) -> Reacted
     ensures { (s : Sets) (f st : List ℕ)
         → reaction_of s result f st ≡ react_to Waiting.Longer (class_of byte) (coding_of s Waiting.Longer f) st byte }

@@ -1,5 +1,5 @@
-// What a byte does outside macro definitions, by what is waited for: its effect, and what is waited for after it. The caller holds
-// the sets; first cells and store are lent.
+// What a byte does outside macro definitions, by what is waited for: its effect and what is waited for after it, or a refusal. The
+// caller holds the sets; first cells and store are lent.
 #![tactic(auto)]
 
 pub mod characters;
@@ -7,24 +7,22 @@ pub mod escapes;
 pub mod positions;
 
 ghost use Rattle.std.specs.Prelude.{List, ◌≡◌, ℕ};
-ghost use Rattle.rules.specs.Coding.{Refuse, Call, React, in_use, designate};
+ghost use Rattle.rules.specs.Coding.{Call, React, in_use, designate};
 ghost use Rattle.reactions.specs.View.{coding_of, reset_sets, sets_after, reaction_of, AsLent};
 
-use rules::{Action, Element, Refusal, Set, Sets, Waiting};
+use rules::{Action, Element, Set, Sets, Waiting};
 use tables::sets::{designate, fresh_sets, in_use};
 
 // The last two say what changes of the sets and ask nothing of drawing. Of the others only the action of NSR changes them.
-#[derive(Clone, Copy)]
+#[derive(Clone, Copy, PartialEq, Eq)]
 pub enum Effect {
-    Refuses(Refusal),
     Calls(u8),
     Acts(Action),
     Uses(Element),
     Designates(Element, Set),
 }
 
-// After a refusal what is waited for says nothing.
-#[derive(Clone, Copy)]
+#[derive(Clone, Copy, PartialEq, Eq)]
 pub struct Reacted {
     pub effect: Effect,
     pub waiting: Waiting,
@@ -51,15 +49,6 @@ pub fn sets_after(effect: Effect, sets: Sets) -> Sets
     }
 }
 
-pub fn refuse(refusal: Refusal) -> Reacted
-    ensures { (s : Sets) (f st : List ℕ) → reaction_of s result f st ≡ Refuse refusal }
-{
-    Reacted {
-        effect: Effect::Refuses(refusal),
-        waiting: Waiting::Nothing,
-    }
-}
-
 // Asks nothing of drawing. A definition may have changed first cells and store.
 pub fn wait_for(waiting: Waiting) -> Reacted
     ensures reaction { (s : Sets) (f st : List ℕ) → reaction_of s result f st ≡ React (coding_of s waiting f) st Action.Idle }
@@ -71,6 +60,7 @@ pub fn wait_for(waiting: Waiting) -> Reacted
     }
 }
 
+// Four short makers, told apart by what is left of the coding state: each has a clause by its own rule.
 pub(crate) fn act(action: Action) -> Reacted
     ensures { (s : Sets) (f st : List ℕ) → reaction_of s result f st ≡ React (coding_of (reset_sets action s) Waiting.Nothing f) st action }
 {

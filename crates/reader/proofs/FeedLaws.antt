@@ -1,10 +1,8 @@
 -- Feed, by the outcome of the tests; and of what is unread of a piece
-use Rattle.std.specs.Prelude.{◌≡◌, ◌-◌}
+use Rattle.std.specs.Prelude.{◌≡◌, ◌-◌, Result, Ok, Err}
 use Rattle.reader.specs.Prelude.{sym, ◌∙◌, subst, List, ℕ, min, length, take, drop}
 use Rattle.rules.specs.declared.Refusal.{Refusal}
 use Rattle.rules.specs.declared.Session.{Session}
-use Rattle.rules.specs.declared.Verdict.{Verdict}
-use Rattle.rules.specs.declared.Verdict.TheVariants.{Passes, Fails}
 use Rattle.rules.specs.declared.Answer.TheVariants.{Refused}
 use Rattle.rules.specs.Reading.{Room, reading, tests, Valid}
 use Rattle.rules.specs.Step.{State, state_lent}
@@ -17,15 +15,15 @@ use Rattle.rules.specs.Promises.{handed_of}
 use Rattle.rules.specs.Promises.{Feeds}
 
 -- Feed: what is lent fails a test and is handed back, or passes them and is read
-module _ (s : Session) (st piece out : List ℕ) (v : Verdict) (e : v ≡ tests (state_lent s st)) where
-  pub feed_fails : (r : Refusal) → v ≡ Fails r → handed_of (record { answer = Refused r; consumed = 0; written = 0; session = s }) st out ≡ feed (state_lent s st) piece out
+module _ (s : Session) (st piece out : List ℕ) (v : Result (Unit {0}) Refusal) (e : v ≡ tests (state_lent s st)) where
+  pub feed_fails : (r : Refusal) → v ≡ Err r → handed_of (record { answer = Refused r; consumed = 0; written = 0; session = s }) st out ≡ feed (state_lent s st) piece out
   unfolding feed
   feed_fails r h = rw (reads_failed (Room (length out)) (state_lent s st) piece (sym e ∙ h))
 
-  pub feed_valid : v ≡ Passes → Valid (state_lent s st)
+  pub feed_valid : v ≡ Ok tt → Valid (state_lent s st)
   feed_valid h = tests_valid (state_lent s st) (sym e ∙ h)
 
-  pub feed_passes : v ≡ Passes → handed (reading (Room (length out)) (s.budget - s.steps) (state_lent s st) piece) out ≡ feed (state_lent s st) piece out
+  pub feed_passes : v ≡ Ok tt → handed (reading (Room (length out)) (s.budget - s.steps) (state_lent s st) piece) out ≡ feed (state_lent s st) piece out
   unfolding feed
   feed_passes h = rw (reads_passed (Room (length out)) (state_lent s st) piece (sym e ∙ h))
 

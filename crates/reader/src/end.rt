@@ -4,18 +4,18 @@ ghost use Rattle.rules.specs.Promises.{Ends};
 
 use ending::end_running;
 use ranges::verdict;
-use rules::{Answer, Ended, Session, Verdict};
+use rules::{Answer, Ended, Session};
 
 // Ends a page: closes the open command and hands its last records over.
 pub fn end(session: Session, store: &[u8], out: &mut [u8]) -> Ended
     ensures { Ends (state_lent session store.now) out.old result out.new }
 {
     match verdict(session, store.len()) {
-        Verdict::Fails(refusal) => Ended {
+        Err(refusal) => Ended {
             answer: Answer::Refused(refusal),
             written: 0,
             session,
         },
-        Verdict::Passes => end_running(session, store, out),
+        Ok(()) => end_running(session, store, out),
     }
 }

@@ -6,7 +6,7 @@ ghost use Rattle.rules.specs.Promises.{Feeds};
 use queries::unread::unread_from;
 use ranges::verdict;
 use reading::read;
-use rules::{Answer, Fed, Session, Verdict};
+use rules::{Answer, Fed, Session};
 
 // Reads a piece as far as the output has room: consumed counts its bytes read, written those of the records. A piece that is not
 // read whole is lent again from there on, with the session that is handed back.
@@ -15,13 +15,13 @@ pub fn feed(session: Session, store: &mut [u8], piece: &[u8], out: &mut [u8]) ->
         store.new out.new }
 {
     match verdict(session, store.len()) {
-        Verdict::Fails(refusal) => Fed {
+        Err(refusal) => Fed {
             answer: Answer::Refused(refusal),
             consumed: 0,
             written: 0,
             session,
         },
-        Verdict::Passes => read(session, store, piece, out),
+        Ok(()) => read(session, store, piece, out),
     }
 }
 

@@ -1,6 +1,9 @@
 -- The first eight bytes of a record as two numbers
-use Rattle.std.specs.Prelude.{◌≡◌, ◌∷◌, ◌++◌, ◌+◌, ◌*◌, ◌/◌, ◌%◌, ◌≤◌}
+use Rattle.std.specs.Prelude.{◌≡◌, ◌∷◌, ◌++◌}
 use Rattle.records.specs.Prelude.{ap, ◌∙◌, List, [], ℕ, arith, set}
+use Rattle.std.specs.Int.{w32, from_le_bytes}
+use Rattle.std.proofs.lemmas.Nat.{le_bytes_4}
+use Rattle.std.specs.Prelude.{◌<◌, refl, zero, suc, get_or}
 use Rattle.rules.specs.declared.Look.{Look}
 use Rattle.rules.specs.declared.Point.{Point}
 use Rattle.rules.specs.declared.Record.{Record}
@@ -9,36 +12,16 @@ use Rattle.records.specs.declared.Head.{Head}
 use Rattle.records.specs.Bytes.{head_of, head_bytes}
 
 -- Four bytes as a number
-pub joined : (a b c d : ℕ) → a ≤ 255 → b ≤ 255 → c ≤ 255 → d ≤ 255 → word (a + 256 * b + 65536 * c + 16777216 * d) ≡ a ∷ b ∷ c ∷ d ∷ []
+pub joined : (a b c d n : ℕ) → a < 256 → b < 256 → c < 256 → d < 256 → n ≡ from_le_bytes w32 (a ∷ b ∷ c ∷ d ∷ []) → word n ≡ a ∷ b ∷ c ∷ d ∷ []
 unfolding word
-joined a b c d ha hb hc hd =
-    let n = a + 256 * b + 65536 * c + 16777216 * d in
-    let q1 : n / 256 ≡ b + 256 * (c + 256 * d) = omega arith in
-    let q2 : n / 65536 ≡ c + 256 * d = omega arith in
-    let q3 : n / 16777216 ≡ d = omega arith in
-    let e0 : n % 256 ≡ a = omega arith in
-    let e1 : (b + 256 * (c + 256 * d)) % 256 ≡ b = omega arith in
-    let e2 : (c + 256 * d) % 256 ≡ c = omega arith in
-    let e3 : d % 256 ≡ d = omega arith in
-    rw (q1, q2, q3, e0, e1, e2, e3)
-
--- A number with another highest byte
-pub recoded : (n d : ℕ) → d ≤ 255 → word (n % 16777216 + 16777216 * d) ≡ n % 256 ∷ n / 256 % 256 ∷ n / 65536 % 256 ∷ d ∷ []
-recoded n d h =
-    let e : n % 16777216 ≡ n % 256 + 256 * (n / 256 % 256) + 65536 * (n / 65536 % 256) = omega arith in
-    ap (λ (k : ℕ). word (k + 16777216 * d)) e ∙ joined (n % 256) (n / 256 % 256) (n / 65536 % 256) d (omega arith) (omega arith) (omega arith) h
-
--- A number with two other lowest bytes
-pub rekinded : (n a b : ℕ) → a ≤ 255 → b ≤ 255 → word (n / 65536 * 65536 + 256 * b + a) ≡ a ∷ b ∷ n / 65536 % 256 ∷ n / 16777216 % 256 ∷ []
-unfolding word
-rekinded n a b ha hb =
-    let k = n / 65536 * 65536 + 256 * b + a in
-    let q1 : k / 256 ≡ n / 65536 * 256 + b = omega arith in
-    let q2 : k / 65536 ≡ n / 65536 = omega arith in
-    let q3 : k / 16777216 ≡ n / 16777216 = omega arith in
-    let e0 : k % 256 ≡ a = omega arith in
-    let e1 : (n / 65536 * 256 + b) % 256 ≡ b = omega arith in
-    rw (q1, q2, q3, e0, e1)
+joined a b c d n ha hb hc hd e = le_bytes_4 (a ∷ b ∷ c ∷ d ∷ []) n refl fits e
+  where
+    fits : (i : ℕ) → get_or (a ∷ b ∷ c ∷ d ∷ []) i 0 < 256
+    fits zero = ha
+    fits (suc zero) = hb
+    fits (suc (suc zero)) = hc
+    fits (suc (suc (suc zero))) = hd
+    fits (suc (suc (suc (suc i)))) = omega arith
 
 -- A record's bytes, its head known as numbers
 pub record_bytes : (r : Record) (h : Head) → head_bytes h ≡ head_of r → head_bytes h ++ words r.p0 ++ words r.p1 ++ words r.p2 ++ words r.pel ≡ bytes_of r

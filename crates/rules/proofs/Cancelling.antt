@@ -53,7 +53,7 @@ module _ (w : State) (s : Source) (h : TakesControl w.session.coding.waiting) wh
 
 -- There is none to leave
 none_left_lem : (y : Bodies) → y.depth ≡ 0 → leave_all y ≡ y
-none_left_lem y e = λ i. record { depth = sym e i; cells = y.cells; places = y.places }
+none_left_lem y e = λ i. record { depth = sym e i; cursors = y.cursors }
 
 abbrev LeavesAll : State → Move → Type 0
 LeavesAll w (Stops r) = act Close w.session.drawing ≡ NotDrawn r

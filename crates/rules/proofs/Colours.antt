@@ -1,7 +1,7 @@
 -- SET COLOUR's data: the colour they give, and what is left of it where they are cut short
 use Rattle.std.specs.Prelude.{◌*◌, ◌-◌, ◌/◌, ◌^◌, ◌≤◌, ◌<◌, ◌≡◌, ◌∷◌, ◌++◌}
 use Rattle.rules.specs.Prelude.{ℕ, zero, suc, arith, refl, sym, ap, ◌∙◌, subst, true, false, List, [], append_assoc, append-nil, set, length, length-append, length-set, length-take, take, take_all, take-append-le, take-suc-set, ltb, eqb, ne_eqb, ltb-true, ltb-false}
-use Rattle.rules.specs.Types.{Done, Opcode, Data, Close, Point, Operand, Drawing, Look, Mode, Direct, Mapped, TwoColour, Record, Second, Verdict, Passes, Fails}
+use Rattle.rules.specs.Types.{Done, Opcode, Data, Close, Point, Operand, Drawing, Look, Mode, Direct, Mapped, TwoColour, Record, Second, Refusal, Result, Ok, Err}
 use Rattle.rules.specs.Numbers.{origin}
 use Rattle.rules.specs.Operands.{green_bits, red_bits, blue_bits, bits_of, from_top, is_data, all_data, begun}
 use Rattle.rules.specs.Record.{figure, bytes_of_all}
@@ -222,13 +222,13 @@ colour_opened : (w : State) (bs : List ℕ) → ReadsPdi w → (set_colour w bs)
 unfolding undivided opcode_fits
 colour_opened w bs k a = by (tests w) refl (steps_left w) refl (act (Opcode 60) w.session.drawing) refl
   where
-    by : (t : Verdict) → tests w ≡ t → (n : ℕ) → steps_left w ≡ n → (o : Outcome) → act (Opcode 60) w.session.drawing ≡ o → ColourOpened w
-    by (Fails r) t n m o e = refused_done (rw (reads_failed Always w (60 ∷ bs) t) at a)
-    by Passes t zero m o e =
+    by : (t : Result (Unit {0}) Refusal) → tests w ≡ t → (n : ℕ) → steps_left w ≡ n → (o : Outcome) → act (Opcode 60) w.session.drawing ≡ o → ColourOpened w
+    by (Err r) t n m o e = refused_done (rw (reads_failed Always w (60 ∷ bs) t) at a)
+    by (Ok u) t zero m o e =
         refused_done (rw (reads_passed Always w (60 ∷ bs) t, m, reads_halt Always w refl (budget (Found 60 (remove_spent w) FromPiece bs) (pdi_found w k 60 bs) tt)) at a)
-    by Passes t (suc n) m (NotDrawn r) e =
+    by (Ok u) t (suc n) m (NotDrawn r) e =
         refused_done (rw (reads_passed Always w (60 ∷ bs) t, m, pdi_refuses w k n 60 bs (omega arith) (omega arith) e) at a)
-    by Passes t (suc n) m (Draw d rs) e =
+    by (Ok u) t (suc n) m (Draw d rs) e =
         let c = subst (Drawn IsCollecting) e (open_collecting w.session.drawing) in
         let f = subst Fits c.is (subst (Drawn Fits) e (act_fits (Opcode 60) w.session.drawing refl (tests_valid w t).drawing)) in
         let s = multi_range c.from.look.domain (valid_domain (collecting c.from.pen.point no_operand c.from) f) in

@@ -1,7 +1,7 @@
 -- One feed after others: a reading goes on where a feed ended full, what is left of the budget, and lists with a call more
 use Rattle.std.specs.Prelude.{◌+◌, ◌-◌, ◌≤◌, ◌<◌, ◌≡◌, ◌∷◌, ◌++◌}
 use Rattle.rules.specs.Prelude.{ℕ, suc, add_assoc, arith, refl, sym, ap, ap₂, ◌∙◌, subst, List, [], append_assoc, append-nil, length, drop, drop-append-le, drop-drop, ltb-true}
-use Rattle.rules.specs.Types.{Record, Done, Full, Verdict, Passes, Fails}
+use Rattle.rules.specs.Types.{Record, Done, Full, Refusal, Result, Ok, Err}
 use Rattle.rules.specs.Numbers.{room_for_step}
 use Rattle.rules.specs.Step.{State, remove_spent, Source, NothingLeft, Found, seek, Goes, interpret}
 use Rattle.rules.specs.Reading.{Reading, NotRefused, Limit, Room, Always, reading, tests, steps_left, read_to, undivided, Valid}
@@ -27,9 +27,9 @@ undivided_never_full w bs a = by (tests w) refl
     n : ℕ
     n = w.session.budget - w.session.steps
 
-    by : (v : Verdict) → tests w ≡ v → ⊥
-    by (Fails r) t = refused_full (ap (λ (x : Reading). x.answer) (sym (reads_failed Always w bs t)) ∙ a)
-    by Passes t = never_full (reads Always n w bs) (ap (λ (x : Reading). x.answer) (sym (reads_passed Always w bs t)) ∙ a)
+    by : (v : Result (Unit {0}) Refusal) → tests w ≡ v → ⊥
+    by (Err r) t = refused_full (ap (λ (x : Reading). x.answer) (sym (reads_failed Always w bs t)) ∙ a)
+    by (Ok u) t = never_full (reads Always n w bs) (ap (λ (x : Reading). x.answer) (sym (reads_passed Always w bs t)) ∙ a)
 
 -- Where a feed ends full, the undivided reading of its piece goes on with what is unread, from the state that the feed left
 
@@ -47,7 +47,7 @@ full_goes_on w bs out a = by (tests w) refl
     x : Reading
     x = first w [] c
 
-    onward : tests w ≡ Passes → Follow n w bs x → read_to Always w bs ≡ join (returned (handed x out)) (read_to Always x.state (drop x.consumed bs))
+    onward : tests w ≡ Ok tt → Follow n w bs x → read_to Always w bs ≡ join (returned (handed x out)) (read_to Always x.state (drop x.consumed bs))
     onward t (stays r e z f) = refused_full (sym e ∙ a)
     onward t (goes k m l h f p z e g) =
         reads_passed Always w bs t
@@ -58,9 +58,9 @@ full_goes_on w bs out a = by (tests w) refl
         ∙ ap (join x) (sym (reads_passed Always x.state (drop x.consumed bs) (later_tests l t)))
         ∙ ap (λ (y : Reading). join y (read_to Always x.state (drop x.consumed bs))) (sym (returned_handed x out))
 
-    by : (v : Verdict) → tests w ≡ v → read_to Always w bs ≡ join (returned (handed x out)) (read_to Always x.state (drop x.consumed bs))
-    by (Fails r) t = refused_full (ap (λ (y : Reading). y.answer) (sym (reads_failed (Room (length out)) w bs t)) ∙ a)
-    by Passes t = onward t (first_follows w [] c t)
+    by : (v : Result (Unit {0}) Refusal) → tests w ≡ v → read_to Always w bs ≡ join (returned (handed x out)) (read_to Always x.state (drop x.consumed bs))
+    by (Err r) t = refused_full (ap (λ (y : Reading). y.answer) (sym (reads_failed (Room (length out)) w bs t)) ∙ a)
+    by (Ok u) t = onward t (first_follows w [] c t)
 
 -- What is left of the budget
 
@@ -106,9 +106,9 @@ after_tests : (l : Limit) (w : State) (bs : List ℕ) → NotRefused (read_to l 
     → steps_left (read_to l w bs).state < steps_left w
 after_tests l w bs a h = by (tests w) refl
   where
-    by : (v : Verdict) → tests w ≡ v → steps_left (read_to l w bs).state < steps_left w
-    by (Fails r) t = absurd (a r (ap (λ (x : Reading). x.answer) (reads_failed l w bs t)))
-    by Passes t = h (tests_valid w t) (subst (Reads l (steps_left w) w bs) (sym (reads_passed l w bs t)) (reads l (steps_left w) w bs))
+    by : (v : Result (Unit {0}) Refusal) → tests w ≡ v → steps_left (read_to l w bs).state < steps_left w
+    by (Err r) t = absurd (a r (ap (λ (x : Reading). x.answer) (reads_failed l w bs t)))
+    by (Ok u) t = h (tests_valid w t) (subst (Reads l (steps_left w) w bs) (sym (reads_passed l w bs t)) (reads l (steps_left w) w bs))
 
 pub full_leaves_less : (w : State) (bs out : List ℕ) → room_for_step ≤ length out → (feed w bs out).answer ≡ Full
     → steps_left (feed w bs out).state < steps_left w

@@ -1,9 +1,9 @@
 -- A number determines its answer: different answers have different numbers
 use Rattle.std.specs.Prelude.{◌≡◌, ◌∷◌}
-use Rattle.rules.specs.Prelude.{ℕ, zero, suc, refl, sym, ap, ◌∙◌, List, [], get_or}
+use Rattle.rules.specs.Prelude.{ℕ, sym, refl, ap, ◌∙◌, List, [], get_or}
 use Rattle.rules.specs.Types.{BudgetUsed, ByteOver127, NameBelow, Unsupported, DefinitionInBody, StoreFull, TooDeep}
 use Rattle.rules.specs.Types.{TooManyVertices, EndInside, BodyBytesLeft, StoreSize, OutOfRange, AfterEnd, AddressOver15}
-use Rattle.rules.specs.Types.{Answer, Done, Full, Refused, Shade, Of, NoAddress}
+use Rattle.rules.specs.Types.{Answer, Done, Full, Refused, Refusal, Result, Ok, Err}
 use Rattle.rules.specs.Calls.{refusal_number, number_of, shade_number, shade_values}
 
 -- The answers, each at its number
@@ -37,15 +37,9 @@ pub number_tells : (a b : Answer) → number_of a ≡ number_of b → a ≡ b
 number_tells a b e = sym (answer_at a) ∙ ap (λ (n : ℕ). get_or answers n Done) e ∙ answer_at b
 
 -- The same of colour: its number, and G, R, B
-abbrev shade_from : ℕ → List ℕ → Shade
-shade_from zero v = Of (get_or v 0 0) (get_or v 1 0) (get_or v 2 0)
-shade_from (suc n) v = NoAddress
-
-shade_from_lem : (s : Shade) → shade_from (shade_number s) (shade_values s) ≡ s
-unfolding shade_number shade_values refusal_number
-shade_from_lem (Of g r b) = refl
-shade_from_lem NoAddress = refl
-
-pub shade_tells : (s t : Shade) → shade_number s ≡ shade_number t → shade_values s ≡ shade_values t → s ≡ t
-shade_tells s t e f =
-    sym (shade_from_lem s) ∙ ap (λ (n : ℕ). shade_from n (shade_values s)) e ∙ ap (shade_from (shade_number t)) f ∙ shade_from_lem t
+pub shade_tells : (s t : Result (List ℕ) Refusal) → shade_number s ≡ shade_number t → shade_values s ≡ shade_values t → s ≡ t
+unfolding shade_number shade_values number_of
+shade_tells (Ok v) (Ok w) e f = ap Ok f
+shade_tells (Ok v) (Err r) e f = let h : Done ≡ Refused r = number_tells Done (Refused r) e in cc
+shade_tells (Err r) (Ok v) e f = let h : Refused r ≡ Done = number_tells (Refused r) Done e in cc
+shade_tells (Err r) (Err q) e f = let h : Refused r ≡ Refused q = number_tells (Refused r) (Refused q) e in cc

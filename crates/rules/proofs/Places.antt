@@ -5,8 +5,8 @@ use Rattle.rules.specs.Types.{Repertoire, Primary, Supplementary, Mosaic, Drcs, 
 use Rattle.rules.specs.Types.{Waiting, Nothing, Shifted, Escape, Designator, Longer, Name, Body, BodyEscape, Row·waiting as Row, Column}
 use Rattle.rules.specs.Types.{Coding, Control, Ignored, Locks, Shifts, Escapes, Recorded, Cancels, Formats, Positions, Positioning, Aps, Nsr}
 use Rattle.rules.specs.Types.{Class, Below, Column2, Above, Final, Opens, Refuses, UsesG2, UsesG3, Closes, NoMeaning}
-use Rattle.rules.specs.Types.{Designated, Names, Unassigned, Inner, OpensNext, Bars, EndsBody, StartsAfresh, StoresBoth}
-use Rattle.rules.specs.Types.{Action, Idle, Close, Position, Opcode, Data, Drawing, Record, Read, Byte, BadCell, Verdict, Passes, Fails, Done}
+use Rattle.rules.specs.Types.{Option, Some, None, Inner, OpensNext, Bars, EndsBody, StartsAfresh, StoresBoth}
+use Rattle.rules.specs.Types.{Action, Idle, Close, Position, Opcode, Data, Drawing, Record, Cursor, Refusal, Result, Ok, Err, Done}
 use Rattle.rules.specs.Numbers.{esc, room_for_step}
 use Rattle.rules.specs.Choice.{pick}
 use Rattle.rules.specs.Record.{word, words, bytes_of, bytes_of_all}
@@ -78,10 +78,10 @@ escape_settles UsesG3 c st = refl
 escape_settles Closes c st = refl
 escape_settles NoMeaning c st = refl
 
-designation_settles : (x : Designated) (e : Element) (c : Coding) (st : List ℕ) → ReactionSettles false (designation x e (wait Nothing c) st)
+designation_settles : (x : Option Set) (e : Element) (c : Coding) (st : List ℕ) → ReactionSettles false (designation x e (wait Nothing c) st)
 unfolding designation
-designation_settles Unassigned e c st = refl
-designation_settles (Names x) e c st = refl
+designation_settles None e c st = refl
+designation_settles (Some x) e c st = refl
 
 name_settles : (x : Freeing) (b : ℕ) (c : Coding) → ReactionSettles false (named x b c)
 unfolding named
@@ -162,10 +162,10 @@ SoughtKept NothingLeft = Unit {0}
 SoughtKept Spoilt = Unit {0}
 SoughtKept (Found b v s r) = StateKept v
 
-body_kept : (x : Read) (i : ℕ) (w : State) (bs : List ℕ) → StateKept w → SoughtKept (from_body x i w bs)
+body_kept : (x : Option (ℕ × Cursor)) (i : ℕ) (w : State) (bs : List ℕ) → StateKept w → SoughtKept (from_body x i w bs)
 unfolding from_body
-body_kept BadCell i w bs g = tt
-body_kept (Byte b x) i w bs g = g
+body_kept None i w bs g = tt
+body_kept (Some (b, x)) i w bs g = g
 
 at_kept : (n : ℕ) (w : State) (bs : List ℕ) → StateKept w → SoughtKept (seek_at n w bs)
 unfolding seek_at
@@ -234,9 +234,9 @@ read_kept : (l : Limit) (w : State) (bs : List ℕ) → StateKept w → ReadingK
 unfolding read_to on_verdict
 read_kept l w bs g = by (tests w)
   where
-    by : (v : Verdict) → ReadingKept (on_verdict v w (reading l (steps_left w) w bs))
-    by (Fails r) = (g, none_written)
-    by Passes = reads_kept g (reads l (steps_left w) w bs)
+    by : (v : Result (Unit {0}) Refusal) → ReadingKept (on_verdict v w (reading l (steps_left w) w bs))
+    by (Err r) = (g, none_written)
+    by (Ok u) = reads_kept g (reads l (steps_left w) w bs)
 
 -- End
 
@@ -253,12 +253,12 @@ end_kept : (room : ℕ) (w : State) → StateKept w → ReadingKept (ending room
 unfolding ending end_checks
 end_kept room w g = by (tests w) (bytes_left w.store w.session.bodies) (unfinished w.session.coding.waiting) _
   where
-    by : (v : Verdict) (left inside short : Bool) → ReadingKept (end_checks v left inside short w)
-    by (Fails r) left inside short = (g, none_written)
-    by Passes true inside short = (g, none_written)
-    by Passes false true short = (g, none_written)
-    by Passes false false true = (g, none_written)
-    by Passes false false false =
+    by : (v : Result (Unit {0}) Refusal) (left inside short : Bool) → ReadingKept (end_checks v left inside short w)
+    by (Err r) left inside short = (g, none_written)
+    by (Ok u) true inside short = (g, none_written)
+    by (Ok u) false true short = (g, none_written)
+    by (Ok u) false false true = (g, none_written)
+    by (Ok u) false false false =
         ended_kept w (act Close w.session.drawing) g (act_grid Close w.session.drawing g.0) (close_settles (nsr_due w.session.coding.waiting) w.session.drawing g.1)
 
 -- After an end that answers 0, neither NSR waits nor is TEXT open
@@ -287,13 +287,13 @@ end_set : (room : ℕ) (w : State) → (ending room w).answer ≡ Done → curso
 unfolding ending end_checks act
 end_set room w = by (tests w) (bytes_left w.store w.session.bodies) (unfinished w.session.coding.waiting) refl _
   where
-    by : (v : Verdict) (left inside : Bool) → unfinished w.session.coding.waiting ≡ inside → (short : Bool)
+    by : (v : Result (Unit {0}) Refusal) (left inside : Bool) → unfinished w.session.coding.waiting ≡ inside → (short : Bool)
         → (end_checks v left inside short w).answer ≡ Done → cursor_unset (end_checks v left inside short w).state ≡ false
-    by (Fails r) left inside e short a = refused_done a
-    by Passes true inside e short a = refused_done a
-    by Passes false true e short a = refused_done a
-    by Passes false false e true a = full_done a
-    by Passes false false e false a =
+    by (Err r) left inside e short a = refused_done a
+    by (Ok u) true inside e short a = refused_done a
+    by (Ok u) false true e short a = refused_done a
+    by (Ok u) false false e true a = full_done a
+    by (Ok u) false false e false a =
         ended_set w (act Close w.session.drawing) (finished_due w.session.coding.waiting e) (close_closes w.session.drawing) a
 
 -- A list of feeds

@@ -2,7 +2,7 @@
 -- contract and by whoever calls it
 use Rattle.std.specs.Prelude.{◌≡◌}
 use Rattle.rules.specs.Prelude.{ℕ, List}
-use Rattle.rules.specs.Types.{Session, Shade, Opened, Fed, Ended·handed}
+use Rattle.rules.specs.Types.{Session, Refusal, Result, Opened, Fed, Ended·handed}
 use Rattle.rules.specs.Step.{State, state_lent}
 use Rattle.rules.specs.Calls.{number_of, Terms, Opening, open_page, Handed, feed, end, colour, shade_number, shade_values}
 
@@ -47,7 +47,7 @@ pub record Ends (w : State) (out : List ℕ) (r : Ended·handed) (written : List
   pub same : ending_of r w.store written ≡ end w out
 
 -- Colour, of a session and an address
-pub record Shades (s : Session) (address : ℕ) (r : Shade) : Type 0 where
+pub record Shades (s : Session) (address : ℕ) (r : Result (List ℕ) Refusal) : Type 0 where
   pub number : shade_number r ≡ shade_number (colour s address)
   pub values : shade_values r ≡ shade_values (colour s address)
   pub same : r ≡ colour s address

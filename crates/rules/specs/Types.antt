@@ -1,5 +1,6 @@
 -- The types of src/lib.rt with their variants, under one name each for all files. A variant that a type has the name of too is told
 -- apart by its own type
+pub use Rattle.std.specs.Prelude.{Option, Some, None, Result, Ok, Err}
 pub use Rattle.rules.specs.declared.Repertoire.{Repertoire}
 pub use Rattle.rules.specs.declared.Repertoire.TheVariants.{Primary, Supplementary, Mosaic, Drcs}
 pub use Rattle.rules.specs.declared.Set.{Set}
@@ -23,18 +24,12 @@ pub use Rattle.rules.specs.declared.Class.{Class}
 pub use Rattle.rules.specs.declared.Class.TheVariants.{Below, Column2, Above}
 pub use Rattle.rules.specs.declared.Final.{Final}
 pub use Rattle.rules.specs.declared.Final.TheVariants.{Opens, Refuses, UsesG2, UsesG3, Closes, NoMeaning}
-pub use Rattle.rules.specs.declared.Designated.{Designated}
-pub use Rattle.rules.specs.declared.Designated.TheVariants.{Names, Unassigned}
 pub use Rattle.rules.specs.declared.Inner.{Inner}
 pub use Rattle.rules.specs.declared.Inner.TheVariants.{OpensNext, Bars, EndsBody, StartsAfresh, StoresBoth}
 pub use Rattle.rules.specs.declared.Action.{Action}
 pub use Rattle.rules.specs.declared.Action.TheVariants.{Idle, Close, Control as Control·action, Cancel, Format, Reset, Position, Character, Opcode, Data}
 pub use Rattle.rules.specs.declared.Bodies.{Bodies}
 pub use Rattle.rules.specs.declared.Cursor.{Cursor}
-pub use Rattle.rules.specs.declared.Read.{Read}
-pub use Rattle.rules.specs.declared.Read.TheVariants.{Byte, BadCell}
-pub use Rattle.rules.specs.declared.Chain.{Chain}
-pub use Rattle.rules.specs.declared.Chain.TheVariants.{Ends, TooLong}
 pub use Rattle.rules.specs.declared.Point.{Point}
 pub use Rattle.rules.specs.declared.Operand.{Operand}
 pub use Rattle.rules.specs.declared.Rotation.{Rotation}
@@ -79,12 +74,8 @@ pub use Rattle.rules.specs.declared.Refusal.TheVariants.{BudgetUsed, ByteOver127
 pub use Rattle.rules.specs.declared.Status.{Status}
 pub use Rattle.rules.specs.declared.Status.TheVariants.{Running, Ended, Stopped}
 pub use Rattle.rules.specs.declared.Session.{Session}
-pub use Rattle.rules.specs.declared.Verdict.{Verdict}
-pub use Rattle.rules.specs.declared.Verdict.TheVariants.{Passes, Fails}
 pub use Rattle.rules.specs.declared.Answer.{Answer}
 pub use Rattle.rules.specs.declared.Answer.TheVariants.{Done, Full, Refused}
 pub use Rattle.rules.specs.declared.Opened.{Opened}
 pub use Rattle.rules.specs.declared.Fed.{Fed}
 pub use Rattle.rules.specs.declared.Ended.{Ended as Ended·handed}
-pub use Rattle.rules.specs.declared.Shade.{Shade}
-pub use Rattle.rules.specs.declared.Shade.TheVariants.{Of, NoAddress}

@@ -1,5 +1,5 @@
 -- TEXT's operands in a run.
-use Rattle.std.specs.Prelude.{◌+◌, ◌/◌, ◌≤◌, ◌<◌, ◌≡◌}
+use Rattle.std.specs.Prelude.{◌+◌, ◌/◌, ◌≤◌, ◌<◌, ◌≡◌, slice_range}
 use Rattle.setting_runs.specs.Prelude.{ℕ, zero, suc, add-zero, arith, refl, sym, ap, ◌∙◌, subst, false, List, [], length, get_or, take, drop, get_or-drop, get_or-take}
 use Rattle.rules.specs.declared.Command.{Command}
 use Rattle.rules.specs.declared.Due.TheVariants.{First, Second, Third}
@@ -13,21 +13,17 @@ use Rattle.rules.specs.declared.Role.TheVariants.{TextFirst, TextSecond, TextFie
 use Rattle.rules.specs.declared.Row.{Row}
 use Rattle.rules.specs.declared.Set.TheVariants.{Pdi}
 use Rattle.rules.specs.declared.Text.{Text}
-use Rattle.rules.specs.Numbers.{room_for_step}
 use Rattle.rules.specs.Operands.{point}
 use Rattle.rules.specs.Text.{with_field, with_first, with_second}
 use Rattle.rules.specs.Drawing.{row, rows, row_of, role_of, due_after, length_of, with_due, no_operand, Draw, apply}
-use Rattle.operands.specs.declared.whole.Whole.TheVariants.{Whole as Whole·point}
+use Rattle.std.proofs.Common.{Some}
 use Rattle.operands.specs.Data.{whole_of}
-use Rattle.pens.specs.Tips.{caught_up}
-use Rattle.pens.specs.declared.tips.Tip.{Tip}
 use Rattle.figures.specs.Carried.{drawing_of}
 use Rattle.figures.specs.Tracing.{pen_at}
 use Rattle.figures.proofs.Carrying.{carry_none}
 use Rattle.drawing_runs.specs.Run.{Run, none, standing}
-use Rattle.drawing_runs.specs.Drew.{DrawsTo}
 use Rattle.setting_runs.specs.Settings.{operand_after, command_after, SetsTo}
-use Rattle.drawing_runs.proofs.RunLaws.{each_data, whole_operand, whole_tells, run_then}
+use Rattle.drawing_runs.proofs.RunLaws.{each_data, whole_operand, whole_tells, run_then, run_dropped}
 
 -- An operand of TEXT that comes whole and makes the text u of t
 module _ (bytes : List ℕ) (from : ℕ) (c : Command) (l : Look) (t u : Text) (k : ℕ) where
@@ -88,7 +84,7 @@ module _ (bytes : List ℕ) (from : ℕ) (c : Command) (l : Look) (t : Text) whe
       (λ r d g h i. Draw (record { pen = pen_at d.pen.point ((ap (λ (b : ℕ). with_second b d.pen.text) (first_byte fit) ∙ ap (with_second (get_or bytes from 0)) h ∙ sym f) i) d.pen.operand; command = d.command; look = d.look; map = d.map }) [])
 
   pub field_set : (u : Text) (k : ℕ) (v : Point) → c.opcode ≡ 34 → c.due ≡ Third → l.domain.multi ≡ k → 1 ≤ k → k ≤ 8 → from + k ≤ length bytes
-      → whole_of l.domain.three (take k (drop from bytes)) ≡ Whole·point v → u ≡ with_field v t
+      → whole_of l.domain.three (take k (drop from bytes)) ≡ Some v → u ≡ with_field v t
       → SetsTo bytes from c l t k (command_after k c) u
   unfolding role_of length_of apply
   field_set u k v e due long some most fit w f =
@@ -125,6 +121,12 @@ sets_then bytes from l c d e t u v n k a b p o m at out fresh eight room =
     subst (λ (w : Operand). Run Pdi bytes from (standing (pen_at p t o) c l m at out) (n + k) (standing (pen_at p v w) e l m at out)) (after_after n k o)
     (run_then (a p o m at out fresh eight room) q)
 
+-- Operands among the bytes from a place on
+pub sets_dropped : (bytes : List ℕ) (n : ℕ) (c d : Command) (l : Look) (t u : Text) (k : ℕ) → SetsTo (slice_range bytes n (length bytes)) 0 c l t k d u → SetsTo bytes (0 + n) c l t k d u
+sets_dropped bytes n c d l t u k sets p o m at out fresh eight room =
+    subst (λ (j : ℕ). Run Pdi bytes j (standing (pen_at p t o) c l m at out) k (standing (pen_at p u (operand_after k o)) d l m at out)) (omega arith)
+    (run_dropped bytes n (sets p o m at out fresh eight room))
+
 -- The operand after TEXT's next is due
 pub command_on : (n : ℕ) (c : Command) → (n ≡ 0 → ⊥) → with_due (due_after Text·pattern c.due) c ≡ command_after n c
 unfolding due_after
@@ -141,11 +143,3 @@ sets_on bytes from l c d e t u v n k f a b =
 pub sets_end : (bytes : List ℕ) (from : ℕ) (l : Look) (c d : Command) (t u : Text) (n k : ℕ) → k ≡ 0 → SetsTo bytes from c l t (n + k) (command_after k d) u → SetsTo bytes from c l t n d u
 sets_end bytes from l c d t u n k e s =
     subst (λ (j : ℕ). SetsTo bytes from c l t j d u) (add-zero n) (subst (λ (j : ℕ). SetsTo bytes from c l t (n + j) (command_after j d) u) e s)
-
--- The same with the pen apart from its text, once the cursor is not behind
-pub set_draws : (bytes : List ℕ) (from : ℕ) (t s u : Text) (x : Tip) (c d : Command) (l : Look) (n at : ℕ) (o : Operand) (out : List ℕ)
-    → x.operand.count ≡ 0 → length x.operand.bytes ≡ 8 → s ≡ caught_up x.behind x.point t → SetsTo bytes from c l s n d u → o ≡ operand_after n x.operand
-    → at + room_for_step ≤ length out
-    → DrawsTo Pdi bytes from t x c l at out (record { count = n; at = at; tip = record { point = x.point; operand = o; behind = false }; command = d }) u out
-set_draws bytes from t s u x c d l n at o out fresh eight e sets f room m =
-    rw (f, ← e) (sets x.point x.operand m at out fresh eight room)

@@ -1,22 +1,19 @@
-// Runs of TEXT's operands, put straight into the words that hold the text.
+// Runs of TEXT's operands, put straight into the text that is lent.
 #![tactic(auto)]
 
 ghost use Rattle.std.specs.Prelude.{◌≡◌, true, List, ℕ, ◌+◌, ◌≤◌, ◌<◌, length};
 ghost use Rattle.rules.specs.Numbers.{room_for_step};
 ghost use Rattle.rules.specs.Ranges.{domain_fits};
 ghost use Rattle.rules.specs.declared.Set.{Set};
-ghost use Rattle.pens.specs.Words.{text_from};
 ghost use Rattle.drawing_runs.specs.Drew.{DrawsTo};
 ghost use Rattle.setting_runs.specs.Settings.{operand_after, command_after, SetsTo};
 
 use data_bytes::with_due;
-use drawing_runs::Drew;
-use operands::whole::{Whole, whole_point};
+use drawing_runs::{Ran, TEXT, Taken};
+use operands::whole::whole_point;
 use pens::tips::{Tip, catch_up};
-use pens::words::{put_field, put_first, put_second};
-use rules::{Command, Domain, Due, Look, Operand, Pattern, Row};
-
-pub const TEXT: u8 = 34;
+use rules::{Command, Domain, Due, Look, NO_OPERAND, Operand, Pattern, Row, Text};
+use settings::{byte_one, byte_two};
 
 const TEXT_ROW: Row = Row {
     pattern: Pattern::Text,
@@ -24,89 +21,72 @@ const TEXT_ROW: Row = Row {
     filled: false,
 };
 
-// How many bytes were taken, and the command after them.
-#[derive(Clone, Copy)]
-struct Taken {
-    count: usize,
-    command: Command,
-}
-
 // The size of the character field, if it comes whole: how many bytes it has, or none.
-fn put_size(words: &mut [u32; 9], domain: Domain, bytes: &[u8], from: usize, to: usize) -> usize
-    requires { (domain_fits domain ≡ true) × (from ≤ to) × (to ≤ length bytes.now) }
+#[tactic(auto, using(crate::proofs::SettingLaws::field_set, crate::proofs::SettingLaws::none_set, rules::proofs::DrawingRanges::multi_range))]
+fn put_size(text: &mut Text, domain: Domain, bytes: &[u8]) -> usize
+    requires { domain_fits domain ≡ true }
     ensures set { (c : Command) (l : Look) → c.opcode ≡ 34 → c.due ≡ Due.Third → l.domain ≡ domain
-        → SetsTo bytes.now from c l (text_from words.old) result (command_after result c) (text_from words.new) }
-    ensures most { from + result ≤ to }
+        → SetsTo bytes.now 0 c l text.old result (command_after result c) text.new }
+    ensures most { result ≤ length bytes.now }
 {
     let n = domain.multi as usize;
-    if to - from < n {
+    if bytes.len() < n {
         return 0;
     }
-    let whole = whole_point(bytes, from, n, domain.three);
-    if let Whole::Whole(size) = whole {
-        put_field(words, size);
-        return n;
+    match whole_point(&bytes[..n], domain.three) {
+        None => 0,
+        Some(size) => {
+            text.field = size;
+            n
+        }
     }
-    0
 }
 
 // The operand that is due, if it comes whole: how many bytes it has, or none.
-fn put_operand(
-    words: &mut [u32; 9],
-    due: Due,
-    domain: Domain,
-    bytes: &[u8],
-    from: usize,
-    to: usize,
-) -> usize
-    requires { (domain_fits domain ≡ true) × (from ≤ to) × (to ≤ length bytes.now) }
+#[tactic(auto, using(crate::proofs::SettingLaws::first_set, crate::proofs::SettingLaws::second_set, crate::proofs::SettingLaws::none_set))]
+fn put_operand(text: &mut Text, due: Due, domain: Domain, bytes: &[u8]) -> usize
+    requires { domain_fits domain ≡ true }
     ensures set { (c : Command) (l : Look) → c.opcode ≡ 34 → c.due ≡ due → l.domain ≡ domain
-        → SetsTo bytes.now from c l (text_from words.old) result (command_after result c) (text_from words.new) }
-    ensures most { from + result ≤ to }
+        → SetsTo bytes.now 0 c l text.old result (command_after result c) text.new }
+    ensures most { result ≤ length bytes.now }
 {
-    if to <= from {
+    if bytes.is_empty() {
         return 0;
     }
-    let byte = bytes[from];
+    let byte = bytes[0];
     if byte / 64 != 1 {
         return 0;
     }
     match due {
         Due::First => {
-            put_first(words, byte);
+            text.settings = byte_one(byte, text.settings);
             1
         }
         Due::Second => {
-            put_second(words, byte);
+            text.settings = byte_two(byte, text.settings);
             1
         }
-        Due::Third => put_size(words, domain, bytes, from, to),
+        Due::Third => put_size(text, domain, bytes),
         Due::Past => 0,
     }
 }
 
-// As many operands as come whole.
-fn put_operands(
-    words: &mut [u32; 9],
-    command: Command,
-    look: Look,
-    bytes: &[u8],
-    from: usize,
-    to: usize,
-) -> Taken
-    requires { (command.opcode ≡ 34) × (domain_fits look.domain ≡ true) × (from ≤ to) × (to ≤ length bytes.now) }
-    ensures set { SetsTo bytes.now from command look (text_from words.old) result.count result.command
-        (text_from words.new) }
-    ensures most { from + result.count ≤ to }
+// As many operands as come whole. The command after them is left. How long an operand is, is known once it is put, so the loop
+// takes what was put.
+fn put_operands(text: &mut Text, command: Command, look: Look, bytes: &[u8]) -> Taken<Command>
+    requires { (command.opcode ≡ 34) × (domain_fits look.domain ≡ true) }
+    ensures set { SetsTo bytes.now 0 command look text.old result.count result.left text.new }
+    ensures most { result.count ≤ length bytes.now }
 {
-    let domain = look.domain;
     let mut command = command;
     let mut count: usize = 0;
     loop {
-        let due = command.due;
-        let taken = put_operand(words, due, domain, bytes, from + count, to);
+        let taken = put_operand(text, command.due, look.domain, &bytes[count..]);
         if taken == 0 {
-            return Taken { count, command };
+            return Taken {
+                count,
+                left: command,
+            };
         }
         count += taken;
         command = with_due(TEXT_ROW, command);
@@ -118,53 +98,43 @@ fn operand_after(count: usize, operand: Operand) -> Operand
     ensures left { result ≡ operand_after count operand }
     ensures eight { length operand.bytes ≡ 8 }
 {
-    if count == 0 {
-        return operand;
-    }
-    Operand {
-        bytes: [0; 8],
-        count: 0,
-    }
+    if count == 0 { operand } else { NO_OPERAND }
 }
 
 // TEXT's operands, where TEXT is open with none begun.
+#[tactic(auto, using(drawing_runs::specs::Run::none))]
 pub fn set_text(
-    words: &mut [u32; 9],
+    text: &mut Text,
     tip: Tip,
     command: Command,
     look: Look,
     bytes: &[u8],
-    from: usize,
-    to: usize,
     at: usize,
-) -> Drew
-    requires { (tip.operand.count ≡ 0) × (domain_fits look.domain ≡ true) × (from ≤ to) × (to ≤ length bytes.now) }
+) -> Ran<Tip>
+    requires { (tip.operand.count ≡ 0) × (domain_fits look.domain ≡ true) }
     ensures ran { (out : List ℕ) → at + room_for_step ≤ length out
-        → DrawsTo Set.Pdi bytes.now from (text_from words.old) tip command look at out result
-        (text_from words.new) out }
-    ensures most { from + result.count ≤ to }
+        → DrawsTo Set.Pdi bytes.now 0 text.old tip command look at out result
+        text.new out }
+    ensures most { result.count ≤ length bytes.now }
 {
     if command.opcode != TEXT {
-        return Drew {
+        return Ran {
             count: 0,
             at,
-            tip,
+            left: tip,
             command,
         };
     }
-    let point = tip.point;
-    catch_up(words, tip.behind, point);
-    let taken = put_operands(words, command, look, bytes, from, to);
-    let operand = operand_after(taken.count, tip.operand);
-    let command = taken.command;
-    Drew {
+    catch_up(text, tip.behind, tip.point);
+    let taken = put_operands(text, command, look, bytes);
+    Ran {
         count: taken.count,
         at,
-        tip: Tip {
-            point,
-            operand,
+        left: Tip {
+            point: tip.point,
+            operand: operand_after(taken.count, tip.operand),
             behind: false,
         },
-        command,
+        command: taken.left,
     }
 }

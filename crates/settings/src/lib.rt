@@ -2,141 +2,80 @@
 #![tactic(auto)]
 
 ghost use Rattle.std.specs.Prelude.{◌≡◌};
-ghost use Rattle.rules.specs.Text.{coded, byte_one, byte_two, with_missing, with_settings, with_field, with_first, with_second, aligned, close_text, fresh_settings, fresh_text, reset_text};
+ghost use Rattle.rules.specs.Text.{coded, byte_one, byte_two, with_missing, with_field, with_first, with_second, aligned, close_text, fresh_settings, fresh_text, reset_text};
 
 use rules::{
     Due, FRESH_HEIGHT, FRESH_WIDTH, Interrow, Moving, ORIGIN, Operand, Pair, Path, Pen, Point,
     Rotation, Settings, Spacing, Style, Text,
 };
 use text::axis::coordinate_of;
-use text::cursor::{aligned, put_cursor, with_cursor};
+use text::cursor::{aligned, put_cursor};
 use text::field::field_box;
 
-fn rotation_of(code: u8) -> Rotation
-    ensures { result ≡ coded code Rotation.Degrees0 Rotation.Degrees90 Rotation.Degrees180 Rotation.Degrees270 }
+// The one of four that a code of two bits stands for.
+fn coded<T: Copy>(code: u8, zero: T, one: T, two: T, three: T) -> T
+    ensures { result ≡ coded code zero one two three }
 {
-    if code == 0 {
-        return Rotation::Degrees0;
+    match code {
+        0 => zero,
+        1 => one,
+        2 => two,
+        _ => three,
     }
-    if code == 1 {
-        return Rotation::Degrees90;
-    }
-    if code == 2 {
-        return Rotation::Degrees180;
-    }
-    Rotation::Degrees270
 }
 
-fn path_of(code: u8) -> Path
-    ensures { result ≡ coded code Path.Right Path.Left Path.Up Path.Down }
-{
-    if code == 0 {
-        return Path::Right;
-    }
-    if code == 1 {
-        return Path::Left;
-    }
-    if code == 2 {
-        return Path::Up;
-    }
-    Path::Down
-}
-
-fn spacing_of(code: u8) -> Spacing
-    ensures { result ≡ coded code Spacing.One Spacing.FiveFourths Spacing.ThreeHalves Spacing.Proportional }
-{
-    if code == 0 {
-        return Spacing::One;
-    }
-    if code == 1 {
-        return Spacing::FiveFourths;
-    }
-    if code == 2 {
-        return Spacing::ThreeHalves;
-    }
-    Spacing::Proportional
-}
-
-fn interrow_of(code: u8) -> Interrow
-    ensures { result ≡ coded code Interrow.OneRow Interrow.FiveFourthsRow Interrow.ThreeHalvesRow Interrow.TwoRows }
-{
-    if code == 0 {
-        return Interrow::OneRow;
-    }
-    if code == 1 {
-        return Interrow::FiveFourthsRow;
-    }
-    if code == 2 {
-        return Interrow::ThreeHalvesRow;
-    }
-    Interrow::TwoRows
-}
-
-fn moving_of(code: u8) -> Moving
-    ensures { result ≡ coded code Moving.Together Moving.CursorLeads Moving.PointLeads Moving.Independent }
-{
-    if code == 0 {
-        return Moving::Together;
-    }
-    if code == 1 {
-        return Moving::CursorLeads;
-    }
-    if code == 2 {
-        return Moving::PointLeads;
-    }
-    Moving::Independent
-}
-
-fn style_of(code: u8) -> Style
-    ensures { result ≡ coded code Style.Underscore Style.Block Style.CrossHair Style.Custom }
-{
-    if code == 0 {
-        return Style::Underscore;
-    }
-    if code == 1 {
-        return Style::Block;
-    }
-    if code == 2 {
-        return Style::CrossHair;
-    }
-    Style::Custom
-}
-
+// Each byte has three settings of its own, so byte_one and byte_two, with_first and with_second are two definitions in the rules too.
+#[tactic(auto, unfolding(rules::specs::Text::byte_one))]
 pub fn byte_one(byte: u8, settings: Settings) -> Settings
     ensures { result ≡ byte_one byte settings }
 {
-    let rotation = rotation_of(byte % 4);
-    let path = path_of(byte / 4 % 4);
-    let spacing = spacing_of(byte / 16 % 4);
-    let interrow = settings.interrow;
-    let moving = settings.moving;
-    let style = settings.style;
     Settings {
-        rotation,
-        path,
-        spacing,
-        interrow,
-        moving,
-        style,
+        rotation: coded(
+            byte % 4,
+            Rotation::Degrees0,
+            Rotation::Degrees90,
+            Rotation::Degrees180,
+            Rotation::Degrees270,
+        ),
+        path: coded(byte / 4 % 4, Path::Right, Path::Left, Path::Up, Path::Down),
+        spacing: coded(
+            byte / 16 % 4,
+            Spacing::One,
+            Spacing::FiveFourths,
+            Spacing::ThreeHalves,
+            Spacing::Proportional,
+        ),
+        ..settings
     }
 }
 
+#[tactic(auto, unfolding(rules::specs::Text::byte_two))]
 pub fn byte_two(byte: u8, settings: Settings) -> Settings
     ensures { result ≡ byte_two byte settings }
 {
-    let rotation = settings.rotation;
-    let path = settings.path;
-    let spacing = settings.spacing;
-    let interrow = interrow_of(byte % 4);
-    let moving = moving_of(byte / 4 % 4);
-    let style = style_of(byte / 16 % 4);
     Settings {
-        rotation,
-        path,
-        spacing,
-        interrow,
-        moving,
-        style,
+        interrow: coded(
+            byte % 4,
+            Interrow::OneRow,
+            Interrow::FiveFourthsRow,
+            Interrow::ThreeHalvesRow,
+            Interrow::TwoRows,
+        ),
+        moving: coded(
+            byte / 4 % 4,
+            Moving::Together,
+            Moving::CursorLeads,
+            Moving::PointLeads,
+            Moving::Independent,
+        ),
+        style: coded(
+            byte / 16 % 4,
+            Style::Underscore,
+            Style::Block,
+            Style::CrossHair,
+            Style::Custom,
+        ),
+        ..settings
     }
 }
 
@@ -144,66 +83,50 @@ pub fn byte_two(byte: u8, settings: Settings) -> Settings
 pub fn with_first(byte: u8, text: Text) -> Text
     ensures { result ≡ with_first byte text }
 {
-    with_settings(byte_one(byte, text.settings), text)
+    Text {
+        settings: byte_one(byte, text.settings),
+        ..text
+    }
 }
 
 // The text after TEXT's second byte.
 pub fn with_second(byte: u8, text: Text) -> Text
     ensures { result ≡ with_second byte text }
 {
-    with_settings(byte_two(byte, text.settings), text)
+    Text {
+        settings: byte_two(byte, text.settings),
+        ..text
+    }
 }
 
 // The text with another character field.
 pub fn with_field(field: Point, text: Text) -> Text
     ensures { result ≡ with_field field text }
 {
-    let settings = text.settings;
-    let cursor = text.cursor;
-    let pair = text.pair;
-    Text {
-        settings,
-        field,
-        cursor,
-        pair,
-    }
+    Text { field, ..text }
 }
 
 // The settings, with the bytes that have not come read as zero.
+#[tactic(auto, unfolding(rules::specs::Text::with_missing))]
 fn with_missing(due: Due, settings: Settings) -> Settings
     ensures { result ≡ with_missing due settings }
 {
     match due {
         Due::First => byte_two(0, byte_one(0, settings)),
         Due::Second => byte_two(0, settings),
-        Due::Third => settings,
-        Due::Past => settings,
-    }
-}
-
-fn with_settings(settings: Settings, text: Text) -> Text
-    ensures { result ≡ with_settings settings text }
-{
-    let field = text.field;
-    let cursor = text.cursor;
-    let pair = text.pair;
-    Text {
-        settings,
-        field,
-        cursor,
-        pair,
+        Due::Third | Due::Past => settings,
     }
 }
 
 // The text once TEXT is closed with so much of its operands read: the cursor is held on the screen.
+#[tactic(auto, unfolding(rules::specs::Text::close_text, rules::specs::Text::set_cursor))]
 pub fn closed_text(due: Due, text: Text) -> Text
     ensures { (p : Point) (o : Operand) → close_text due (record { point = p; text = text; operand = o }) ≡ aligned result (record { point = p; text = text; operand = o }) }
 {
-    let cursor = text.cursor;
+    let x = coordinate_of(text.cursor.x);
+    let y = coordinate_of(text.cursor.y);
     let settings = with_missing(due, text.settings);
-    let text = with_settings(settings, text);
-    let x = coordinate_of(cursor.x);
-    let y = coordinate_of(cursor.y);
+    let text = Text { settings, ..text };
     put_cursor(field_box(text), x, y, Pair::NoPair, text)
 }
 
@@ -211,8 +134,7 @@ pub fn closed_text(due: Due, text: Text) -> Text
 pub fn close_text(due: Due, pen: Pen) -> Pen
     ensures { result ≡ close_text due pen }
 {
-    let text = closed_text(due, pen.text);
-    aligned(text, pen)
+    aligned(closed_text(due, pen.text), pen)
 }
 
 pub fn fresh_settings() -> Settings
@@ -231,23 +153,24 @@ pub fn fresh_settings() -> Settings
 pub fn fresh_text() -> Text
     ensures { result ≡ fresh_text }
 {
-    let settings = fresh_settings();
-    let field = Point {
-        x: FRESH_WIDTH as u32,
-        y: FRESH_HEIGHT as u32,
-    };
     Text {
-        settings,
-        field,
+        settings: fresh_settings(),
+        field: Point {
+            x: FRESH_WIDTH as u32,
+            y: FRESH_HEIGHT as u32,
+        },
         cursor: ORIGIN,
         pair: Pair::NoPair,
     }
 }
 
 // NSR at the 1/15: the default settings and field, and no pair begun; the cursor stays.
+#[tactic(auto, unfolding(rules::specs::Text::reset_text))]
 pub fn reset_text(text: Text) -> Text
     ensures { result ≡ reset_text text }
 {
-    let fresh = fresh_text();
-    with_cursor(fresh, text.cursor)
+    Text {
+        cursor: text.cursor,
+        ..fresh_text()
+    }
 }

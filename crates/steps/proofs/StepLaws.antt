@@ -1,15 +1,12 @@
 -- A step by its parts: the body read on, a call, an action, and the reaction that leads to them
-use Rattle.std.specs.Prelude.{◌+◌, ◌-◌, ◌≤◌, ◌<◌, ◌≡◌, ◌⊎◌, ◌&&◌}
-use Rattle.steps.specs.Prelude.{ℕ, zero, suc, add-zero, add-one, sub-one, refl, sym, ap, ◌∙◌, Bool, true, false, List, [], inl, inr, set, eqb, lt-ltb, le-ltb}
+use Rattle.std.specs.Prelude.{◌+◌, ◌≤◌, ◌<◌, ◌≡◌, ◌⊎◌, ◌&&◌, Result, Ok, Err, IsErr}
+use Rattle.steps.specs.Prelude.{ℕ, zero, suc, add-zero, add-one, refl, sym, ap, ◌∙◌, Bool, true, false, not, List, [], inl, inr, set, eqb, lt-ltb, le-ltb}
 use Rattle.rules.specs.declared.Action.{Action}
 use Rattle.rules.specs.declared.Action.TheVariants.{Idle}
 use Rattle.rules.specs.declared.Bodies.{Bodies}
 use Rattle.rules.specs.declared.Coding.{Coding}
-use Rattle.rules.specs.declared.Command.{Command}
 use Rattle.rules.specs.declared.Cursor.{Cursor}
 use Rattle.rules.specs.declared.Drawing.{Drawing}
-use Rattle.rules.specs.declared.Look.{Look}
-use Rattle.rules.specs.declared.Pen.{Pen}
 use Rattle.rules.specs.declared.Refusal.{Refusal}
 use Rattle.rules.specs.declared.Refusal.TheVariants.{DefinitionInBody, TooDeep, TooManyVertices}
 use Rattle.rules.specs.declared.Answer.{Answer}
@@ -20,6 +17,7 @@ use Rattle.rules.specs.declared.Text.{Text}
 use Rattle.rules.specs.declared.Waiting.{Waiting}
 use Rattle.rules.specs.Numbers.{most_depth, room_for_step}
 use Rattle.rules.specs.Store.{first_of}
+use Rattle.rules.specs.Bodies.{nowhere}
 use Rattle.rules.specs.Coding.{Reaction, Refuse, Call, React, react, after_escape}
 use Rattle.rules.specs.Drawing.{Outcome, NotDrawn, Draw, act}
 use Rattle.rules.specs.Record.{bytes_of_all}
@@ -28,50 +26,37 @@ use Rattle.rules.specs.Reading.{consumed_by}
 use Rattle.rules.specs.Step.{State, with_bodies, Move, on_outcome, call, on_reaction, opens_inside, interpret}
 use Rattle.rules.proofs.Bools.{true_false, false_true}
 use Rattle.pens.specs.Tips.{pen_of}
-use Rattle.pens.specs.declared.tips.Tip.{Tip}
 use Rattle.records.proofs.Writes.{overwrite_none}
-use Rattle.figures.specs.declared.Drawn.{Drawn}
+use Rattle.figures.specs.declared.TooManyVertices.{TooManyVertices as TooManyVertices·figures}
 use Rattle.figures.specs.Carried.{Carried, carry, drawing_of, carried_of}
 use Rattle.drawing.proofs.Refusals.{OnlyVertices, act_vertices}
 use Rattle.bodies.specs.Stack.{bodies_of, DepthAfter}
 use Rattle.reactions.specs.View.{coding_of, effect_on, reaction_of, AsLent, sets_after}
 use Rattle.reactions.specs.declared.Effect.{Effect}
-use Rattle.reactions.specs.declared.Effect.TheVariants.{Refuses, Calls, Acts}
+use Rattle.reactions.specs.declared.Effect.TheVariants.{Calls, Acts}
 use Rattle.reactions.specs.declared.Reacted.{Reacted}
 use Rattle.coding.proofs.EffectLaws.{act_kept}
 use Rattle.steps.specs.declared.Course.{Course}
 use Rattle.steps.specs.declared.Course.TheVariants.{GoesOn, Ends as Ends·course, Draws}
 use Rattle.progress.specs.declared.Progress.{Progress}
 use Rattle.steps.specs.declared.Turned.{Turned}
+use Rattle.progress.specs.declared.Reached.{Reached}
 use Rattle.steps.specs.Leaving.{source_at, read_on, step_by, interpreted, Left, leaves}
 use Rattle.progress.specs.Progress.{steps_to, written_to}
-use Rattle.steps.specs.View.{state_at, coding_after, answered, left_by, left_of, DrawDueBy, DrawDue, RoomBy, Ready, read_on_if, text_if}
+use Rattle.steps.specs.View.{state_at, coding_after, answered, left_by, left_of, DrawDue, RoomBy, drawn_of, read_on_if}
 
 -- 6 is for a byte from a body
 pub inside_none : (d : ℕ) (x : Waiting) (b : ℕ) → d ≡ 0 → false ≡ opens_inside (source_at d) x b
 unfolding opens_inside
 inside_none d x b h = rw h
 
+pub none_run : (d : ℕ) → d ≡ 0 → not (eqb d 0) ≡ false
+none_run d h = rw h
+
 pub inside_some : (d : ℕ) (x : Waiting) (b : ℕ) {t : Bool} → (d ≡ 0 → ⊥) → after_escape x ≡ t → (t && eqb b 64) ≡ opens_inside (source_at d) x b
 unfolding opens_inside
 inside_some zero x b h e = absurd (h refl)
 inside_some (suc i) x b h e = rw e
-
--- A body read on
-pub on_none : (d : ℕ) (x : Cursor) (y : Bodies) → d ≡ 0 → y ≡ read_on d x y
-on_none d x y h = rw h
-
-pub on_some : (d : ℕ) (x : Cursor) (cells places cells₁ places₁ : List ℕ) → (d ≡ 0 → ⊥)
-    → (cells₁ ≡ set cells (d - 1) x.cell) × (places₁ ≡ set places (d - 1) x.place)
-    → bodies_of d cells₁ places₁ ≡ read_on d x (bodies_of d cells places)
-on_some zero x cells places cells₁ places₁ h e = absurd (h refl)
-on_some (suc i) x cells places cells₁ places₁ h e = rw (e.0, e.1, sub-one)
-
-pub on_refused : {t : Bool} (d : ℕ) (x : Cursor) (y : Bodies) → t ≡ true → y ≡ read_on_if t d x y
-on_refused d x y h = rw h
-
-pub on_drawn : {t : Bool} (d : ℕ) (x : Cursor) (y z : Bodies) → t ≡ false → z ≡ read_on d x y → z ≡ read_on_if t d x y
-on_drawn d x y z h e = rw h e
 
 -- A call and an idle action leave the sets
 pub call_sets : (e : Effect) (n : ℕ) (s : Sets) → e ≡ Calls n → s ≡ sets_after e s
@@ -80,32 +65,21 @@ call_sets e n s h = rw h
 pub idle_sets : (e : Effect) (a : Action) (s : Sets) → e ≡ Acts a → a ≡ Idle → s ≡ sets_after e s
 idle_sets e a s h k = rw (h, k)
 
--- The text, alike
-pub text_kept : {b : Bool} (t u : Text) → b ≡ true → t ≡ text_if b t u
-text_kept t u h = rw h
-
-pub text_drawn : {b : Bool} (t u v : Text) → b ≡ false → v ≡ u → v ≡ text_if b t u
-text_drawn t u v h e = rw h e
-
--- The pen that is put together
-pub pen_together : (t u : Text) (x : Tip) {p : Pen} → p ≡ pen_of u x → u ≡ t → p ≡ pen_of t x
-pen_together t u x e f = e ∙ ap (λ (v : Text). pen_of v x) f
-
 on_depth : (d : ℕ) (x : Cursor) (y : Bodies) → y.depth ≡ d → (read_on d x y).depth ≡ d
 on_depth zero x y h = h
 on_depth (suc i) x y h = refl
 
 abbrev stops : Progress → Refusal → Turned
-stops p r = record { course = Ends·course (Refused r); progress = p; cursor = record { cell = 0; place = 0 } }
+stops p r = record { course = Ends·course (Refused r); progress = p; cursor = nowhere }
 
 abbrev goes : Progress → Turned
-goes p = record { course = GoesOn; progress = p; cursor = record { cell = 0; place = 0 } }
+goes p = record { course = GoesOn; progress = p; cursor = nowhere }
 
 -- To a reading that ends nothing is due
-pub ends_due : (p q : Progress) (r : Turned) (a : Answer) → r ≡ record { course = Ends·course a; progress = q; cursor = record { cell = 0; place = 0 } } → DrawDue p r
+pub ends_due : (p q : Progress) (r : Turned) (a : Answer) → r ≡ record { course = Ends·course a; progress = q; cursor = nowhere } → DrawDue p r
 ends_due p q r a e = rw e tt
 
-pub ends_room : (q : Progress) (r : Turned) (a : Answer) (n : ℕ) → r ≡ record { course = Ends·course a; progress = q; cursor = record { cell = 0; place = 0 } } → RoomBy r.course n
+pub ends_room : (q : Progress) (r : Turned) (a : Answer) (n : ℕ) → r ≡ record { course = Ends·course a; progress = q; cursor = nowhere } → RoomBy r.course n
 ends_room q r a n e = rw e tt
 
 pub some_room : (c : Course) (n : ℕ) → room_for_step ≤ n → RoomBy c n
@@ -114,118 +88,123 @@ some_room (Ends·course a) n h = tt
 some_room (Draws a) n h = h
 
 -- A call
-module _ (budget : ℕ) (p : Progress) (cells places firsts : List ℕ) (d : Drawing) (st out : List ℕ) (x : Cursor) (name : ℕ) (s : Sets) (u : Waiting) where
+module _ (budget : ℕ) (p : Progress) (cursors : List Cursor) (firsts : List ℕ) (d : Drawing) (st out : List ℕ) (x : Cursor) (name : ℕ) (s : Sets) (u : Waiting) where
   abbrev before : State
-  before = state_at budget p cells places firsts d st
+  before = state_at budget p cursors firsts d st
 
   pub call_deep : (r : Turned) → r ≡ stops p TooDeep → most_depth ≤ p.depth
-      → left_of budget p r cells places firsts d st out
+      → left_of budget p r cursors firsts d st out
       ≡ leaves (step_by p.depth x (call name (coding_of s u firsts)) before) p.at p.written out
   unfolding call on_move leaves
-  call_deep r e h = rw (e, on_depth p.depth x (bodies_of p.depth cells places) refl, le-ltb p.depth most_depth h)
+  call_deep r e h = rw (e, on_depth p.depth x (bodies_of p.depth cursors) refl, le-ltb p.depth most_depth h)
 
-  called : (y : Bodies) (cells₁ places₁ : List ℕ) (first after : ℕ) → bodies_of p.depth cells₁ places₁ ≡ y → p.depth < most_depth
+  called : (y : Bodies) (cursors₁ : List Cursor) (first after : ℕ) → bodies_of p.depth cursors₁ ≡ y → p.depth < most_depth
       → first ≡ first_of firsts name → after ≡ consumed_by (source_at p.depth) p.at
-      → left_of budget p (goes (steps_to after (p.depth + 1) s u p)) (set cells₁ p.depth first) (set places₁ p.depth 0) firsts d st out
+      → left_of budget p (goes (steps_to after (p.depth + 1) s u p)) (set cursors₁ p.depth (record { cell = first; place = 0 })) firsts d st out
       ≡ leaves {n = 1} (on_move (call name (coding_of s u firsts) (with_bodies y before)) 0 (source_at p.depth) [] before) p.at p.written out
   unfolding call on_move leaves bytes_of_all
-  called y cells₁ places₁ first after e h f a =
+  called y cursors₁ first after e h f a =
       rw (← e, lt-ltb p.depth most_depth h, ← f, ← a, overwrite_none out p.written, add-zero p.written, add-one p.steps, add-one p.depth)
 
-  pub call_goes : (cells₁ places₁ cells₂ places₂ : List ℕ) (first after : ℕ) → p.depth < most_depth
-      → bodies_of p.depth cells₁ places₁ ≡ read_on p.depth x (bodies_of p.depth cells places)
+  pub call_goes : (cursors₁ cursors₂ : List Cursor) (first after : ℕ) → p.depth < most_depth
+      → bodies_of p.depth cursors₁ ≡ read_on p.depth x (bodies_of p.depth cursors)
       → first ≡ first_of firsts name
-      → (cells₂ ≡ set cells₁ p.depth first) × (places₂ ≡ set places₁ p.depth 0)
+      → cursors₂ ≡ set cursors₁ p.depth (record { cell = first; place = 0 })
       → after ≡ consumed_by (source_at p.depth) p.at
       → (q : Progress) → q ≡ steps_to after (p.depth + 1) s u p
-      → left_of budget p (goes q) cells₂ places₂ firsts d st out
+      → left_of budget p (goes q) cursors₂ firsts d st out
       ≡ leaves (step_by p.depth x (call name (coding_of s u firsts)) before) p.at p.written out
-  call_goes cells₁ places₁ cells₂ places₂ first after h e f g a q k =
-      rw (k, g.0, g.1) (called (read_on p.depth x (bodies_of p.depth cells places)) cells₁ places₁ first after e h f a)
+  call_goes cursors₁ cursors₂ first after h e f g a q k =
+      rw (k, g) (called (read_on p.depth x (bodies_of p.depth cursors)) cursors₁ first after e h f a)
 
 -- An action
-module _ (budget : ℕ) (p : Progress) (cells places firsts : List ℕ) (d : Drawing) (st out : List ℕ) (x : Cursor) (s : Sets) (u : Waiting) where
+module _ (budget : ℕ) (p : Progress) (cursors : List Cursor) (firsts : List ℕ) (d : Drawing) (st out : List ℕ) (x : Cursor) (s : Sets) (u : Waiting) where
   abbrev asked : Action → Left
-  asked a = leaves (step_by p.depth x (on_outcome (act a d) a (coding_of s u firsts) st) (state_at budget p cells places firsts d st)) p.at p.written out
+  asked a = leaves (step_by p.depth x (on_outcome (act a d) a (coding_of s u firsts) st) (state_at budget p cursors firsts d st)) p.at p.written out
 
-  idled : (y : Bodies) (cells₁ places₁ : List ℕ) (after : ℕ) → bodies_of p.depth cells₁ places₁ ≡ y → after ≡ consumed_by (source_at p.depth) p.at
-      → left_of budget p (goes (steps_to after p.depth s u p)) cells₁ places₁ firsts d st out
-      ≡ leaves {n = 1} (on_move (on_outcome (act Idle d) Idle (coding_of s u firsts) st (with_bodies y (state_at budget p cells places firsts d st))) 0 (source_at p.depth) [] (state_at budget p cells places firsts d st)) p.at p.written out
+  idled : (y : Bodies) (cursors₁ : List Cursor) (after : ℕ) → bodies_of p.depth cursors₁ ≡ y → after ≡ consumed_by (source_at p.depth) p.at
+      → left_of budget p (goes (steps_to after p.depth s u p)) cursors₁ firsts d st out
+      ≡ leaves {n = 1} (on_move (on_outcome (act Idle d) Idle (coding_of s u firsts) st (with_bodies y (state_at budget p cursors firsts d st))) 0 (source_at p.depth) [] (state_at budget p cursors firsts d st)) p.at p.written out
   unfolding act on_outcome on_move leaves bytes_of_all
-  idled y cells₁ places₁ after e a = rw (← e, ← a, overwrite_none out p.written, add-zero p.written, add-one p.steps)
+  idled y cursors₁ after e a = rw (← e, ← a, overwrite_none out p.written, add-zero p.written, add-one p.steps)
 
   -- One that asks nothing of drawing
-  pub idle_goes : (cells₁ places₁ : List ℕ) (after : ℕ)
-      → bodies_of p.depth cells₁ places₁ ≡ read_on p.depth x (bodies_of p.depth cells places)
+  pub idle_goes : (cursors₁ : List Cursor) (after : ℕ)
+      → bodies_of p.depth cursors₁ ≡ read_on p.depth x (bodies_of p.depth cursors)
       → after ≡ consumed_by (source_at p.depth) p.at
       → (q : Progress) → q ≡ steps_to after p.depth s u p
-      → left_of budget p (goes q) cells₁ places₁ firsts d st out ≡ asked Idle
-  idle_goes cells₁ places₁ after e a q k = rw k (idled (read_on p.depth x (bodies_of p.depth cells places)) cells₁ places₁ after e a)
+      → left_of budget p (goes q) cursors₁ firsts d st out ≡ asked Idle
+  idle_goes cursors₁ after e a q k = rw k (idled (read_on p.depth x (bodies_of p.depth cursors)) cursors₁ after e a)
 
   -- One that is left to drawing
   pub draws_left : (a : Action) (after depth : ℕ) (q : Progress) → q ≡ steps_to after depth s u p
-      → left_of budget p (record { course = Draws a; progress = q; cursor = x }) cells places firsts d st out ≡ asked a
+      → left_of budget p (record { course = Draws a; progress = q; cursor = x }) cursors firsts d st out ≡ asked a
   draws_left a after depth q k = rw k
 
-pub draws_due : (a : Action) (p : Progress) (s : Sets) (u : Waiting) (n depth : ℕ) (q : Progress) → Ready p n → DepthAfter a p.depth depth
-    → q ≡ steps_to n depth s u p → DrawDueBy (Draws a) p q
-draws_due a p s u n depth q h k e = (rw (e, h.after), rw e k, h.depth)
+-- A refusal leaves the drawing state, so it may be read as it was
+pub not_drawn : (o : Outcome) (d e : Drawing) (at : ℕ) (out out₁ : List ℕ) (x : TooManyVertices·figures)
+    → carried_of (Err x) at e out₁ ≡ carry o d at out → record { refused = true; drawing = d; at = at; output = out₁ } ≡ carry o d at out
+unfolding carry
+not_drawn (NotDrawn r) d e at out out₁ x h = ap (λ (z : Carried). record { refused = true; drawing = d; at = at; output = z.output }) h
+not_drawn (Draw c rs) d e at out out₁ x h = true_false (ap (λ (z : Carried). z.refused) h)
 
--- The action of a turn from p to q, which drawing answers with r
+pub drawn_refused : (r : Result Reached TooManyVertices·figures) (x : Reached) (t : Text) (map out : List ℕ) → IsErr r
+    → drawn_of r x t map out ≡ record { refused = true; drawing = drawing_of (pen_of t x.tip) x.command x.look map; at = x.progress.written; output = out }
+drawn_refused (Ok n) x t map out h = false_true h
+drawn_refused (Err e) x t map out h = refl
+
+-- The action of a turn from p to q, of which drawing leaves z
 module _ (budget : ℕ) (p q : Progress) (e : q ≡ steps_to (consumed_by (source_at p.depth) p.at) q.depth q.sets q.waiting p)
-    (cells places firsts : List ℕ) (d : Drawing) (st out : List ℕ) (x : Cursor) (a : Action) (l : DepthAfter a p.depth q.depth)
-    (r : Drawn) (map₁ out₁ : List ℕ) (f : carried_of r map₁ out₁ ≡ carry (act a d) d p.written out)
-    (cells₁ places₁ : List ℕ) (g : bodies_of p.depth cells₁ places₁ ≡ read_on_if r.too_many_vertices p.depth x (bodies_of p.depth cells places)) where
+    (cursors : List Cursor) (firsts : List ℕ) (d : Drawing) (st out : List ℕ) (x : Cursor) (a : Action) (l : DepthAfter a p.depth q.depth)
+    (z : Carried) (f : z ≡ carry (act a d) d p.written out)
+    (cursors₁ : List Cursor) (g : bodies_of p.depth cursors₁ ≡ read_on_if z.refused p.depth x (bodies_of p.depth cursors)) where
   abbrev drawn : Left
-  drawn = left_by (Draws a) budget p q x cells places firsts d st out
+  drawn = left_by (Draws a) budget p q x cursors firsts d st out
 
-  abbrev after·draw : Drawing
-  after·draw = drawing_of r.pen r.command r.look map₁
-
-  pub draw_refused : (pen : Pen) (command : Command) (look : Look) (map : List ℕ) → d ≡ drawing_of pen command look map → r.too_many_vertices ≡ true
-      → record { course = Ends·course (Refused TooManyVertices); state = answered (Refused TooManyVertices) (state_at budget p cells₁ places₁ firsts (drawing_of pen command look map₁) st); consumed = p.at; written = p.written; output = out₁ } ≡ drawn
+  pub draw_refused : z.refused ≡ true
+      → record { course = Ends·course (Refused TooManyVertices); state = answered (Refused TooManyVertices) (state_at budget p cursors₁ firsts z.drawing st); consumed = p.at; written = p.written; output = z.output } ≡ drawn
   unfolding carry on_outcome on_move leaves
-  draw_refused pen command look map k n = by (act a d) f (act_vertices a d)
+  draw_refused n = by (act a d) f (act_vertices a d)
     where
-      same : bodies_of p.depth cells₁ places₁ ≡ bodies_of p.depth cells places
+      same : bodies_of p.depth cursors₁ ≡ bodies_of p.depth cursors
       same = rw n at g
 
-      by : (o : Outcome) → carried_of r map₁ out₁ ≡ carry o d p.written out → OnlyVertices o
-          → record { course = Ends·course (Refused TooManyVertices); state = answered (Refused TooManyVertices) (state_at budget p cells₁ places₁ firsts (drawing_of pen command look map₁) st); consumed = p.at; written = p.written; output = out₁ }
-          ≡ leaves (step_by p.depth x (on_outcome o a (coding_of q.sets q.waiting firsts) st) (state_at budget p cells places firsts d st)) p.at p.written out
-      by (NotDrawn m) h v = rw (v, same, ap (λ (z : Carried). z.drawing.map) h, ap (λ (z : Carried). z.output) h, k)
-      by (Draw c rs) h v = false_true (sym (ap (λ (z : Carried). z.refused) h) ∙ n)
+      by : (o : Outcome) → z ≡ carry o d p.written out → OnlyVertices o
+          → record { course = Ends·course (Refused TooManyVertices); state = answered (Refused TooManyVertices) (state_at budget p cursors₁ firsts z.drawing st); consumed = p.at; written = p.written; output = z.output }
+          ≡ leaves (step_by p.depth x (on_outcome o a (coding_of q.sets q.waiting firsts) st) (state_at budget p cursors firsts d st)) p.at p.written out
+      by (NotDrawn m) h v = rw (v, same, h)
+      by (Draw c rs) h v = false_true (sym (ap (λ (k : Carried). k.refused) h) ∙ n)
 
-  pub draw_goes : r.too_many_vertices ≡ false
-      → record { course = GoesOn; state = state_at budget (written_to r.at q) cells₁ places₁ firsts after·draw st; consumed = q.at; written = r.at; output = out₁ } ≡ drawn
+  pub draw_goes : z.refused ≡ false
+      → record { course = GoesOn; state = state_at budget (written_to z.at q) cursors₁ firsts z.drawing st; consumed = q.at; written = z.at; output = z.output } ≡ drawn
   unfolding carry on_outcome on_move leaves
   draw_goes n = by (act a d) f
     where
-      on : bodies_of p.depth cells₁ places₁ ≡ read_on p.depth x (bodies_of p.depth cells places)
+      on : bodies_of p.depth cursors₁ ≡ read_on p.depth x (bodies_of p.depth cursors)
       on = rw n at g
 
-      by : (o : Outcome) → carried_of r map₁ out₁ ≡ carry o d p.written out
-          → record { course = GoesOn; state = state_at budget (written_to r.at q) cells₁ places₁ firsts after·draw st; consumed = q.at; written = r.at; output = out₁ }
-          ≡ leaves (step_by p.depth x (on_outcome o a (coding_of q.sets q.waiting firsts) st) (state_at budget p cells places firsts d st)) p.at p.written out
-      by (NotDrawn m) h = true_false (sym (ap (λ (z : Carried). z.refused) h) ∙ n)
+      by : (o : Outcome) → z ≡ carry o d p.written out
+          → record { course = GoesOn; state = state_at budget (written_to z.at q) cursors₁ firsts z.drawing st; consumed = q.at; written = z.at; output = z.output }
+          ≡ leaves (step_by p.depth x (on_outcome o a (coding_of q.sets q.waiting firsts) st) (state_at budget p cursors firsts d st)) p.at p.written out
+      by (NotDrawn m) h = true_false (sym (ap (λ (k : Carried). k.refused) h) ∙ n)
       by (Draw c rs) h =
-          rw (← on, ← l cells₁ places₁, ap (λ (z : Progress). z.at) e, ap (λ (z : Progress). z.steps) e, add-one p.steps)
-          (ap (λ (z : Carried).
+          rw (← on, ← l cursors₁, ap (λ (k : Progress). k.at) e, ap (λ (k : Progress). k.steps) e, add-one p.steps)
+          (ap (λ (k : Carried).
           record {
             course = GoesOn;
-            state = state_with z.drawing;
+            state = state_with k.drawing;
             consumed = consumed_by (source_at p.depth) p.at;
-            written = z.at;
-            output = z.output;
+            written = k.at;
+            output = k.output;
           }) h)
         where
           state_with : Drawing → State
-          state_with z = record { session = record { budget = budget; steps = suc p.steps; status = Running; bodies = bodies_of q.depth cells₁ places₁; coding = coding_of q.sets q.waiting firsts; drawing = z }; store = st }
+          state_with k = record { session = record { budget = budget; steps = suc p.steps; status = Running; bodies = bodies_of q.depth cursors₁; coding = coding_of q.sets q.waiting firsts; drawing = k }; store = st }
 
 -- The reaction that leads there
-module _ (budget : ℕ) (p : Progress) (cells places firsts : List ℕ) (d : Drawing) (st out : List ℕ) (x : Cursor) (b : ℕ) where
+module _ (budget : ℕ) (p : Progress) (cursors : List Cursor) (firsts : List ℕ) (d : Drawing) (st out : List ℕ) (x : Cursor) (b : ℕ) where
   abbrev entry : State
-  entry = state_at budget p cells places firsts d st
+  entry = state_at budget p cursors firsts d st
 
   abbrev reaction : Reaction
   reaction = react (coding_of p.sets p.waiting firsts) st b
@@ -237,13 +216,18 @@ module _ (budget : ℕ) (p : Progress) (cells places firsts : List ℕ) (d : Dra
   Answers l = l ≡ leaves (interpreted p.depth x b entry) p.at p.written out
 
   pub byte_inside : (r : Turned) → r ≡ stops p DefinitionInBody → opens_inside (source_at p.depth) p.waiting b ≡ true
-      → Answers (left_of budget p r cells places firsts d st out)
+      → Answers (left_of budget p r cursors firsts d st out)
   unfolding interpreted interpret on_move leaves
   byte_inside r e h = rw (e, h)
 
+  pub byte_refused : opens_inside (source_at p.depth) p.waiting b ≡ false → (x : Refusal) (firsts₁ st₁ : List ℕ) → Refuse x ≡ reaction
+      → (firsts₁ ≡ firsts) × (st₁ ≡ st) → (r : Turned) → r ≡ stops p x → Answers (left_of budget p r cursors firsts₁ d st₁ out)
+  unfolding interpreted interpret on_reaction on_move leaves
+  byte_refused h x firsts₁ st₁ e k r q = rw (h, ← e, q, k.0, k.1)
+
   module _ (h : opens_inside (source_at p.depth) p.waiting b ≡ false) (m : Reacted) (firsts₁ st₁ : List ℕ) (e : reaction_of p.sets m firsts₁ st₁ ≡ reaction) where
     abbrev reacted : State
-    reacted = state_at budget p cells places firsts₁ d st₁
+    reacted = state_at budget p cursors firsts₁ d st₁
 
     abbrev after : Coding
     after = coding_after m p firsts₁
@@ -253,14 +237,6 @@ module _ (budget : ℕ) (p : Progress) (cells places firsts : List ℕ) (d : Dra
     reacts y c l t f q =
         let r : effect_on y after st₁ ≡ reaction = rw (← t) e in
         rw (h, ← r, ← f) q
-
-    pub byte_refused : (x : Refusal) → m.effect ≡ Refuses x → (AsLent m firsts firsts₁) × (AsLent m st st₁) → (r : Turned) → r ≡ stops p x
-        → Answers (left_of budget p r cells places firsts₁ d st₁ out)
-    unfolding on_reaction on_move leaves
-    byte_refused x t k r q =
-        let f : firsts₁ ≡ firsts = rw t at k.0 in
-        let g : st₁ ≡ st = rw t at k.1 in
-        reacts (Refuses x) (Refuse x) _ t refl (rw (q, f, g))
 
     -- First cells and store as lent: the step was from there
     as_lent : (k : State → Move) → firsts₁ ≡ firsts → st₁ ≡ st → leaves_by k reacted ≡ leaves_by k entry

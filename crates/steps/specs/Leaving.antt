@@ -1,11 +1,9 @@
 -- The turn of the rules by its parts, and what it leaves
-use Rattle.std.specs.Prelude.{◌+◌, ◌∷◌}
+use Rattle.std.specs.Prelude.{◌+◌, ◌∷◌, Option, Some}
 use Rattle.steps.specs.Prelude.{ℕ, zero, suc, Bool, true, false, List, [], length, get_or}
 use Rattle.rules.specs.declared.Bodies.{Bodies}
 use Rattle.rules.specs.declared.Cursor.{Cursor}
-use Rattle.rules.specs.declared.Read.{Read}
-use Rattle.rules.specs.declared.Read.TheVariants.{Byte}
-use Rattle.rules.specs.Bodies.{body_at, with_body, read_body}
+use Rattle.rules.specs.Bodies.{nowhere, body_at, with_body, read_body}
 use Rattle.rules.specs.Record.{bytes_of_all}
 use Rattle.rules.specs.Step.{State, with_bodies, Source, FromBody, FromPiece, Move, interpret}
 use Rattle.rules.specs.Turn.{Turn, Ends, Takes, on_move}
@@ -20,8 +18,8 @@ nothing_left zero [] = true
 nothing_left zero (b ∷ bs) = false
 nothing_left (suc i) bs = false
 
-abbrev pub next_byte : ℕ → List ℕ → Bodies → List ℕ → Read
-next_byte zero st y bs = Byte (get_or bs 0 0) (record { cell = 0; place = 0 })
+abbrev pub next_byte : ℕ → List ℕ → Bodies → List ℕ → Option (ℕ × Cursor)
+next_byte zero st y bs = Some (get_or bs 0 0, nowhere)
 next_byte (suc i) st y bs = read_body st (body_at y i)
 
 -- Without a body, the byte is the piece's

@@ -1,5 +1,5 @@
 -- The state of a reading as the code holds it: in parts, with the drawing state and the arrays beside them
-use Rattle.std.specs.Prelude.{◌≤◌, ◌<◌, ◌≡◌}
+use Rattle.std.specs.Prelude.{◌≤◌, ◌<◌, ◌≡◌, Result, Ok, Err}
 use Rattle.steps.specs.Prelude.{ℕ, Bool, true, false, List}
 use Rattle.rules.specs.declared.Bodies.{Bodies}
 use Rattle.rules.specs.declared.Coding.{Coding}
@@ -23,14 +23,18 @@ use Rattle.steps.specs.declared.Course.TheVariants.{GoesOn, Ends, Draws}
 use Rattle.progress.specs.declared.Progress.{Progress}
 use Rattle.steps.specs.declared.Turned.{Turned}
 use Rattle.progress.specs.Progress.{steps_to}
+use Rattle.progress.specs.declared.Reached.{Reached}
+use Rattle.figures.specs.declared.TooManyVertices.{TooManyVertices}
+use Rattle.figures.specs.Carried.{Carried, drawing_of}
+use Rattle.pens.specs.Tips.{pen_of}
 
-abbrev pub state_at : ℕ → Progress → List ℕ → List ℕ → List ℕ → Drawing → List ℕ → State
-state_at budget p cells places firsts d st =
-    state_of budget p.steps Running (bodies_of p.depth cells places) (coding_of p.sets p.waiting firsts) d st
+abbrev pub state_at : ℕ → Progress → List Cursor → List ℕ → Drawing → List ℕ → State
+state_at budget p cursors firsts d st =
+    state_of budget p.steps Running (bodies_of p.depth cursors) (coding_of p.sets p.waiting firsts) d st
 
 -- No body that runs is spent
-abbrev pub NoneSpent : ℕ → List ℕ → List ℕ → List ℕ → Type 0
-NoneSpent d cells places st = depth_left st (bodies_of d cells places) d ≡ d
+abbrev pub NoneSpent : ℕ → List Cursor → List ℕ → Type 0
+NoneSpent d cursors st = depth_left st (bodies_of d cursors) d ≡ d
 
 -- The coding layer after a byte and its reaction
 abbrev pub coding_after : Reacted → Progress → List ℕ → Coding
@@ -44,31 +48,31 @@ answered (Refused r) w = with_status (Stopped r) w
 
 -- What a turn leaves by its course, from the progress p to q. One that ends the reading leaves p. Where an action is to be drawn, that is
 -- what drawing it leaves, the innermost body then read on at x
-abbrev pub left_by : Course → ℕ → Progress → Progress → Cursor → List ℕ → List ℕ → List ℕ → Drawing → List ℕ → List ℕ → Left
-left_by GoesOn budget p q x cells places firsts d st out =
+abbrev pub left_by : Course → ℕ → Progress → Progress → Cursor → List Cursor → List ℕ → Drawing → List ℕ → List ℕ → Left
+left_by GoesOn budget p q x cursors firsts d st out =
     record {
       course = GoesOn;
-      state = state_at budget q cells places firsts d st;
+      state = state_at budget q cursors firsts d st;
       consumed = q.at;
       written = q.written;
       output = out;
     }
-left_by (Ends a) budget p q x cells places firsts d st out =
+left_by (Ends a) budget p q x cursors firsts d st out =
     record {
       course = Ends a;
-      state = answered a (state_at budget p cells places firsts d st);
+      state = answered a (state_at budget p cursors firsts d st);
       consumed = p.at;
       written = p.written;
       output = out;
     }
-left_by (Draws a) budget p q x cells places firsts d st out =
+left_by (Draws a) budget p q x cursors firsts d st out =
     leaves
-    (step_by p.depth x (on_outcome (act a d) a (coding_of q.sets q.waiting firsts) st) (state_at budget p cells places firsts d st))
+    (step_by p.depth x (on_outcome (act a d) a (coding_of q.sets q.waiting firsts) st) (state_at budget p cursors firsts d st))
     p.at p.written out
 
-abbrev pub left_of : ℕ → Progress → Turned → List ℕ → List ℕ → List ℕ → Drawing → List ℕ → List ℕ → Left
-left_of budget p r cells places firsts d st out =
-    left_by r.course budget p r.progress r.cursor cells places firsts d st out
+abbrev pub left_of : ℕ → Progress → Turned → List Cursor → List ℕ → Drawing → List ℕ → List ℕ → Left
+left_of budget p r cursors firsts d st out =
+    left_by r.course budget p r.progress r.cursor cursors firsts d st out
 
 -- Where an action is to be drawn, q is the progress of an accepted step from p
 abbrev pub DrawDueBy : Course → Progress → Progress → Type 0
@@ -87,15 +91,27 @@ RoomBy GoesOn n = Unit
 RoomBy (Ends a) n = Unit
 RoomBy (Draws a) n = room_for_step ≤ n
 
+-- What drawing an action leaves, for where the reading stood: the drawing state, the output and the place after its records
+abbrev pub drawn_of : Result Reached TooManyVertices → Reached → Text → List ℕ → List ℕ → Carried
+drawn_of (Ok r) x t map out =
+    record {
+      refused = false;
+      drawing = drawing_of (pen_of t r.tip) r.command r.look map;
+      at = r.progress.written;
+      output = out;
+    }
+drawn_of (Err e) x t map out =
+    record {
+      refused = true;
+      drawing = drawing_of (pen_of t x.tip) x.command x.look map;
+      at = x.progress.written;
+      output = out;
+    }
+
 -- The innermost body is read on unless the action was refused
 abbrev pub read_on_if : Bool → ℕ → Cursor → Bodies → Bodies
 read_on_if true d x y = y
 read_on_if false d x y = read_on d x y
-
--- and then the text is the one drawn
-abbrev pub text_if : Bool → Text → Text → Text
-text_if true t u = t
-text_if false t u = u
 
 -- What is asked of a step that is due: bodies to hold, a count to go up, and the place of the piece once its byte is read
 pub record Ready (p : Progress) (n : ℕ) : Type 0 where

@@ -1,30 +1,30 @@
 // One step: a byte that was read is interpreted. All that can refuse it comes before the first change.
 #![tactic(auto)]
 
-ghost use Rattle.std.specs.Prelude.{◌≡◌, true, List, ℕ, ◌+◌, ◌≤◌, length};
+ghost use Rattle.std.specs.Prelude.{◌≡◌, true, false, List, ℕ, ◌+◌, ◌≤◌, length, is_err, IfOk, OnErr};
 ghost use Rattle.rules.specs.Numbers.{room_for_step};
 ghost use Rattle.rules.specs.declared.Drawing.{Drawing};
+ghost use Rattle.rules.specs.Bodies.{nowhere};
 ghost use Rattle.rules.specs.Drawing.{act};
 ghost use Rattle.rules.specs.Ranges.{waiting_fits, drawing_fits};
 ghost use Rattle.rules.specs.Step.{on_outcome, call, opens_inside};
 ghost use Rattle.pens.specs.Tips.{pen_of};
-ghost use Rattle.pens.specs.Words.{text_from};
 ghost use Rattle.store.specs.Lent.{Sized, IsName};
 ghost use Rattle.reactions.specs.View.{sets_after};
-ghost use Rattle.figures.specs.Carried.{carry_out, drawing_of, carried_of};
+ghost use Rattle.figures.specs.Carried.{carry_out, drawing_of};
 ghost use Rattle.bodies.specs.Stack.{bodies_of};
+ghost use Rattle.progress.specs.Progress.{written_to};
 ghost use Rattle.steps.specs.Leaving.{source_at, read_on, step_by, interpreted, leaves};
-ghost use Rattle.steps.specs.View.{state_at, coding_after, left_of, DrawDue, Ready, read_on_if, text_if};
+ghost use Rattle.steps.specs.View.{state_at, coding_after, left_of, DrawDue, Ready, drawn_of, read_on_if};
 
-use bodies::{depth_after, set_body};
+use bodies::depth_after;
 use coding::{react, set_read};
 use drawing::act;
-use figures::Drawn;
+use figures::TooManyVertices;
 use pens::tips::pen_of;
-use pens::words::{put_text, text_of};
-use progress::{Progress, Reached, counted};
+use progress::{Progress, Reached, after_drawing};
 use reactions::{Effect, Reacted, sets_after};
-use rules::{Action, Answer, Cursor, MOST_DEPTH, Refusal, Sets, Waiting};
+use rules::{Action, Answer, Cursor, Drawing, MOST_DEPTH, NOWHERE, Refusal, Sets, Text, Waiting};
 use store::names::first_of;
 use tables::escapes::after_escape;
 
@@ -35,7 +35,8 @@ pub struct Onward {
     pub cursor: Cursor,
 }
 
-// A step was accepted, the reading ends, or the step is accepted if its action can be drawn.
+// A step was accepted, the reading ends, or the step is accepted if its action can be drawn. An enum of its own: none of the three is an
+// error, and each is one arm of the reading.
 #[derive(Clone, Copy)]
 pub enum Course {
     GoesOn,
@@ -51,10 +52,8 @@ pub struct Turned {
     pub cursor: Cursor,
 }
 
-const NOWHERE: Cursor = Cursor { cell: 0, place: 0 };
-
 pub fn ends(progress: Progress, answer: Answer) -> Turned
-    ensures { result ≡ record { course = Course.Ends answer; progress = progress; cursor = record { cell = 0; place = 0 } } }
+    ensures { result ≡ record { course = Course.Ends answer; progress = progress; cursor = nowhere } }
 {
     Turned {
         course: Course::Ends(answer),
@@ -67,22 +66,18 @@ pub fn ends(progress: Progress, answer: Answer) -> Turned
 fn opens_inside(depth: u8, waiting: Waiting, byte: u8) -> bool
     ensures { result ≡ opens_inside (source_at depth) waiting byte }
 {
-    if depth == 0 {
-        return false;
-    }
-    after_escape(waiting) && byte == 64
+    depth != 0 && after_escape(waiting) && byte == 64
 }
 
 // The innermost body goes on at the cursor. Without a body there is none to keep.
-fn read_on(cells: &mut [u8; 8], places: &mut [u8; 8], depth: u8, cursor: Cursor)
+fn read_on(cursors: &mut [Cursor; 8], depth: u8, cursor: Cursor)
     requires { depth ≤ 8 }
-    ensures { bodies_of depth cells.new places.new
-        ≡ read_on depth cursor (bodies_of depth cells.old places.old) }
+    ensures { bodies_of depth cursors.new
+        ≡ read_on depth cursor (bodies_of depth cursors.old) }
 {
-    if depth == 0 {
-        return;
+    if depth != 0 {
+        cursors[(depth - 1) as usize] = cursor;
     }
-    set_body(cells, places, depth - 1, cursor);
 }
 
 fn call(
@@ -90,16 +85,15 @@ fn call(
     onward: Onward,
     name: u8,
     reacted: Reacted,
-    cells: &mut [u8; 8],
-    places: &mut [u8; 8],
+    cursors: &mut [Cursor; 8],
     firsts: &[u8; 96],
 ) -> Turned
     requires { (Ready progress onward.at) × (IsName name) × (reacted.effect ≡ Effect.Calls name) }
     ensures left { (budget : ℕ) (d : Drawing) (st out : List ℕ)
-        → left_of budget progress result cells.new places.new firsts.now d st out
+        → left_of budget progress result cursors.new firsts.now d st out
         ≡ leaves
         (step_by progress.depth onward.cursor (call name (coding_after reacted progress firsts.now))
-        (state_at budget progress cells.old places.old firsts.now d st))
+        (state_at budget progress cursors.old firsts.now d st))
         progress.at progress.written out }
     ensures due { DrawDue progress result }
 {
@@ -107,45 +101,50 @@ fn call(
     if MOST_DEPTH <= depth {
         return ends(progress, Answer::Refused(Refusal::TooDeep));
     }
-    let cursor = onward.cursor;
-    read_on(cells, places, depth, cursor);
+    read_on(cursors, depth, onward.cursor);
     let cell = first_of(firsts, name);
-    set_body(cells, places, depth, Cursor { cell, place: 0 });
-    let sets = progress.sets;
-    let waiting = reacted.waiting;
+    cursors[depth as usize] = Cursor { cell, place: 0 };
     Turned {
         course: Course::GoesOn,
-        progress: counted(progress, onward.at, depth + 1, sets, waiting),
+        progress: Progress {
+            at: onward.at,
+            steps: progress.steps + 1,
+            waiting: reacted.waiting,
+            depth: depth + 1,
+            ..progress
+        },
         cursor: NOWHERE,
     }
 }
 
-// Nothing is asked of drawing. The sets are those after the byte.
+// Nothing is asked of drawing. The sets are given, since an idle action leaves them: to put them together in each step is slower.
 fn idle(
     progress: Progress,
     onward: Onward,
     sets: Sets,
     reacted: Reacted,
-    cells: &mut [u8; 8],
-    places: &mut [u8; 8],
+    cursors: &mut [Cursor; 8],
 ) -> Turned
     requires { (Ready progress onward.at) × (sets ≡ sets_after reacted.effect progress.sets) }
     ensures left { (budget : ℕ) (d : Drawing) (firsts st out : List ℕ)
-        → left_of budget progress result cells.new places.new firsts d st out
+        → left_of budget progress result cursors.new firsts d st out
         ≡ leaves
         (step_by progress.depth onward.cursor
         (on_outcome (act Action.Idle d) Action.Idle (coding_after reacted progress firsts) st)
-        (state_at budget progress cells.old places.old firsts d st))
+        (state_at budget progress cursors.old firsts d st))
         progress.at progress.written out }
     ensures due { DrawDue progress result }
 {
-    let depth = progress.depth;
-    let cursor = onward.cursor;
-    read_on(cells, places, depth, cursor);
-    let waiting = reacted.waiting;
+    read_on(cursors, progress.depth, onward.cursor);
     Turned {
         course: Course::GoesOn,
-        progress: counted(progress, onward.at, depth, sets, waiting),
+        progress: Progress {
+            at: onward.at,
+            steps: progress.steps + 1,
+            sets,
+            waiting: reacted.waiting,
+            ..progress
+        },
         cursor: NOWHERE,
     }
 }
@@ -153,23 +152,25 @@ fn idle(
 // The body is read on once the action is drawn.
 fn draws(progress: Progress, onward: Onward, action: Action, reacted: Reacted) -> Turned
     requires { Ready progress onward.at }
-    ensures left { (budget : ℕ) (cells places firsts : List ℕ) (d : Drawing) (st out : List ℕ)
-        → left_of budget progress result cells places firsts d st out
+    ensures left { (budget : ℕ) (cursors : List Cursor) (firsts : List ℕ) (d : Drawing) (st out : List ℕ)
+        → left_of budget progress result cursors firsts d st out
         ≡ leaves
         (step_by progress.depth onward.cursor (on_outcome (act action d) action (coding_after reacted progress firsts) st)
-        (state_at budget progress cells places firsts d st))
+        (state_at budget progress cursors firsts d st))
         progress.at progress.written out }
     ensures due { DrawDue progress result }
 {
-    let cursor = onward.cursor;
-    let depth = depth_after(action, progress.depth);
-    let effect = reacted.effect;
-    let sets = sets_after(effect, progress.sets);
-    let waiting = reacted.waiting;
     Turned {
         course: Course::Draws(action),
-        progress: counted(progress, onward.at, depth, sets, waiting),
-        cursor,
+        progress: Progress {
+            at: onward.at,
+            steps: progress.steps + 1,
+            sets: sets_after(reacted.effect, progress.sets),
+            waiting: reacted.waiting,
+            depth: depth_after(action, progress.depth),
+            ..progress
+        },
+        cursor: onward.cursor,
     }
 }
 
@@ -178,23 +179,19 @@ fn ask(
     onward: Onward,
     action: Action,
     reacted: Reacted,
-    cells: &mut [u8; 8],
-    places: &mut [u8; 8],
+    cursors: &mut [Cursor; 8],
 ) -> Turned
     requires { (Ready progress onward.at) × (reacted.effect ≡ Effect.Acts action) }
     ensures left { (budget : ℕ) (d : Drawing) (firsts st out : List ℕ)
-        → left_of budget progress result cells.new places.new firsts d st out
+        → left_of budget progress result cursors.new firsts d st out
         ≡ leaves
         (step_by progress.depth onward.cursor (on_outcome (act action d) action (coding_after reacted progress firsts) st)
-        (state_at budget progress cells.old places.old firsts d st))
+        (state_at budget progress cursors.old firsts d st))
         progress.at progress.written out }
     ensures due { DrawDue progress result }
 {
     match action {
-        Action::Idle => {
-            let sets = progress.sets;
-            idle(progress, onward, sets, reacted, cells, places)
-        }
+        Action::Idle => idle(progress, onward, progress.sets, reacted, cursors),
         _ => draws(progress, onward, action, reacted),
     }
 }
@@ -204,76 +201,71 @@ pub fn interpret(
     progress: Progress,
     onward: Onward,
     byte: u8,
-    cells: &mut [u8; 8],
-    places: &mut [u8; 8],
+    cursors: &mut [Cursor; 8],
     firsts: &mut [u8; 96],
     store: &mut [u8],
 ) -> Turned
     requires { (Ready progress onward.at) × (Sized store.old) × (waiting_fits progress.waiting ≡ true) }
     ensures left { (budget : ℕ) (d : Drawing) (out : List ℕ)
-        → left_of budget progress result cells.new places.new firsts.new d store.new
+        → left_of budget progress result cursors.new firsts.new d store.new
         out
         ≡ leaves
         (interpreted progress.depth onward.cursor byte
-        (state_at budget progress cells.old places.old firsts.old d store.old))
+        (state_at budget progress cursors.old firsts.old d store.old))
         progress.at progress.written out }
     ensures due { DrawDue progress result }
 {
-    let sets = progress.sets;
-    let waiting = progress.waiting;
-    if opens_inside(progress.depth, waiting, byte) {
+    if opens_inside(progress.depth, progress.waiting, byte) {
         return ends(progress, Answer::Refused(Refusal::DefinitionInBody));
     }
-    let set = set_read(waiting, sets);
-    let reacted = react(set, waiting, firsts, store, byte);
-    let effect = reacted.effect;
-    match effect {
-        Effect::Refuses(refusal) => ends(progress, Answer::Refused(refusal)),
-        Effect::Calls(name) => call(progress, onward, name, reacted, cells, places, firsts),
-        Effect::Acts(action) => ask(progress, onward, action, reacted, cells, places),
-        Effect::Uses(_) => {
-            let sets = sets_after(effect, sets);
-            idle(progress, onward, sets, reacted, cells, places)
-        }
-        Effect::Designates(_, _) => {
-            let sets = sets_after(effect, sets);
-            idle(progress, onward, sets, reacted, cells, places)
-        }
+    let set = set_read(progress.waiting, progress.sets);
+    match react(set, progress.waiting, firsts, store, byte) {
+        Err(refusal) => ends(progress, Answer::Refused(refusal)),
+        Ok(reacted) => match reacted.effect {
+            Effect::Calls(name) => call(progress, onward, name, reacted, cursors, firsts),
+            Effect::Acts(action) => ask(progress, onward, action, reacted, cursors),
+            Effect::Uses(_) | Effect::Designates(_, _) => {
+                let sets = sets_after(reacted.effect, progress.sets);
+                idle(progress, onward, sets, reacted, cursors)
+            }
+        },
     }
 }
 
-// Draws the action of a turn, and reads its body on where drawing accepts it.
+// Draws the action of a turn that leads to the progress `next`, and reads its body on where drawing accepts it.
 pub fn draw(
     action: Action,
+    next: Progress,
     cursor: Cursor,
     reached: Reached,
-    words: &mut [u32; 9],
-    cells: &mut [u8; 8],
-    places: &mut [u8; 8],
+    text: &mut Text,
+    cursors: &mut [Cursor; 8],
     map: &mut [u8; 48],
     out: &mut [u8],
-) -> Drawn
+) -> Result<Reached, TooManyVertices>
     requires { (reached.progress.depth ≤ 8)
-        × (drawing_fits (drawing_of (pen_of (text_from words.old) reached.tip) reached.command reached.look map.old) ≡ true)
+        × (drawing_fits (drawing_of (pen_of text.old reached.tip) reached.command reached.look map.old) ≡ true)
         × (reached.progress.written + room_for_step ≤ length out.old) }
-    ensures drawn { carried_of result map.new out.new
+    ensures drawn { drawn_of result reached text.new map.new out.new
         ≡ carry_out (act action)
-        (drawing_of (pen_of (text_from words.old) reached.tip) reached.command reached.look map.old)
+        (drawing_of (pen_of text.old reached.tip) reached.command reached.look map.old)
         reached.progress.written out.old }
-    ensures text { text_from words.new ≡ text_if result.too_many_vertices (text_from words.old) result.pen.text }
-    ensures bodies { bodies_of reached.progress.depth cells.new places.new
-        ≡ read_on_if result.too_many_vertices reached.progress.depth cursor
-        (bodies_of reached.progress.depth cells.old places.old) }
+    ensures steps { IfOk result (λ r. r.progress ≡ written_to r.progress.written next) }
+    ensures text { OnErr result (text.new ≡ text.old) }
+    ensures settled { IfOk result (λ r. r.tip.behind ≡ false) }
+    ensures bodies { bodies_of reached.progress.depth cursors.new
+        ≡ read_on_if (is_err result) reached.progress.depth cursor
+        (bodies_of reached.progress.depth cursors.old) }
 {
-    let progress = reached.progress;
-    let at = progress.written;
-    let pen = pen_of(text_of(words), reached.tip);
-    let drawn = act(action, pen, reached.command, reached.look, map, out, at);
-    if drawn.too_many_vertices {
-        return drawn;
-    }
-    let pen = drawn.pen;
-    put_text(words, pen.text);
-    read_on(cells, places, progress.depth, cursor);
-    drawn
+    let mut drawing = Drawing {
+        pen: pen_of(*text, reached.tip),
+        command: reached.command,
+        look: reached.look,
+        map: *map,
+    };
+    let written = act(action, &mut drawing, out, reached.progress.written)?;
+    *text = drawing.pen.text;
+    *map = drawing.map;
+    read_on(cursors, reached.progress.depth, cursor);
+    Ok(after_drawing(next, written, &drawing))
 }

@@ -15,8 +15,8 @@ module _ (st : List ℕ) (x : Cursor) where
       × (((from ≤ to) × (to ≤ length st))
       × (from < to → x.place + to ≤ from + most_bytes))
 
-  pub stretches_none : (from to : ℕ) → (from ≡ 0) × (to ≡ 0) → Stretches from to
-  stretches_none from to e = (λ k h. absurd (omega (arith, e.0, e.1)), ((omega (arith, e.0, e.1), omega (arith, e.0, e.1)), λ h. absurd (omega (arith, e.0, e.1))))
+  pub stretches_none : Stretches 0 0
+  stretches_none = (λ k h. absurd (omega arith), ((omega arith, omega arith), λ h. absurd (omega arith)))
 
   gives_left : (k n : ℕ) → n ≡ count_of st x.cell → (x.cell ≡ 0 → ⊥) → x.place + k < n → has_left st (on_by k x) ≡ true
   unfolding has_left

@@ -1,15 +1,9 @@
 -- An answer to freeing a body, with the store left, as the rule has it
-use Rattle.std.specs.Prelude.{◌≡◌}
+use Rattle.std.specs.Prelude.{Result, Ok, Err}
 use Rattle.store.specs.Prelude.{ℕ, List}
+use Rattle.rules.specs.declared.Refusal.{Refusal}
 use Rattle.rules.specs.Store.{Freeing, NotFreed, Freed}
-use Rattle.store.specs.declared.chains.FreeAnswer.{FreeAnswer}
-use Rattle.store.specs.declared.chains.FreeAnswer.TheVariants.{Done, Refused}
 
-abbrev pub freeing_of : FreeAnswer → List ℕ → Freeing
-freeing_of Done st = Freed st
-freeing_of (Refused r) st = NotFreed r
-
--- "A refused step changes nothing": what is left is what was lent
-abbrev pub KeptIfRefused : FreeAnswer → List ℕ → List ℕ → Type 0
-KeptIfRefused Done lent left = Unit
-KeptIfRefused (Refused r) lent left = left ≡ lent
+abbrev pub freeing_of : Result (Unit {0}) Refusal → List ℕ → Freeing
+freeing_of (Ok u) st = Freed st
+freeing_of (Err r) st = NotFreed r

@@ -1,9 +1,9 @@
 // One cell of the store. Only this file knows where the parts of a cell lie.
-ghost use Rattle.std.specs.Prelude.{◌≡◌, ◌+◌, ◌*◌, ◌-◌, ◌<◌, ◌≤◌, length};
+ghost use Rattle.std.specs.Prelude.{◌≡◌, ◌+◌, ◌*◌, ◌<◌, ◌≤◌, ◌↔◌, IsTrue, length};
 ghost use Rattle.rules.specs.Numbers.{most_bytes};
 ghost use Rattle.rules.specs.Store.{next_of, set_next, count_of, set_count, good_count, body_byte, set_body_byte};
 ghost use Rattle.store.specs.Lent.{Sized};
-ghost use Rattle.store.specs.Runs.{Laid};
+ghost use Rattle.store.specs.Runs.{Plain, Laid};
 
 use rules::{ESC, MOST_BYTES};
 
@@ -44,6 +44,7 @@ pub fn set_count(store: &mut [u8], cell: u8, count: u8)
 pub fn good_count(count: u8) -> bool
     ensures { result ≡ good_count count }
 {
+    // A `matches!` of the range hides the two tests from the proof.
     1 <= count && count <= MOST_BYTES
 }
 
@@ -59,42 +60,35 @@ pub(crate) fn body_byte(store: &[u8], cell: u8, place: u8) -> u8
     requires { (Sized store.now) × (place < most_bytes) }
     ensures { result ≡ body_byte store.now cell place }
 {
-    store[CELL_SIZE * (cell as usize) + 2 + (place as usize)]
+    store[place_in_store(cell, place)]
 }
 
 pub fn set_body_byte(store: &mut [u8], cell: u8, place: u8, byte: u8)
     requires { (Sized store.old) × (place < most_bytes) }
     ensures { store.new ≡ set_body_byte store.old cell place byte }
 {
-    store[CELL_SIZE * (cell as usize) + 2 + (place as usize)] = byte;
+    store[place_in_store(cell, place)] = byte;
+}
+
+// Whether a definition stores the byte as it is.
+pub fn is_plain(byte: u8) -> bool
+    ensures { IsTrue result ↔ Plain byte }
+{
+    byte <= 127 && byte != ESC
 }
 
 // Sets body bytes from a place on, up to an ESC or a byte over 127, and answers how many. The count of the cell stays.
-pub fn lay_bytes(
-    store: &mut [u8],
-    cell: u8,
-    place: u8,
-    bytes: &[u8],
-    from: usize,
-    to: usize,
-) -> usize
-    requires { (Sized store.old) × (from ≤ to) × (to ≤ length bytes.now) × (place + (to - from) ≤ most_bytes) }
-    ensures laid { Laid bytes.now from cell place store.old result store.new }
-    ensures most { from + result ≤ to }
+pub fn lay_bytes(store: &mut [u8], cell: u8, place: u8, bytes: &[u8]) -> usize
+    requires { (Sized store.old) × (place + length bytes.now ≤ most_bytes) }
+    ensures laid { Laid bytes.now 0 cell place store.old result store.new }
+    ensures most { result ≤ length bytes.now }
 {
-    let at = CELL_SIZE * (cell as usize) + 2 + (place as usize);
-    let most = to - from;
-    let mut n: usize = 0;
-    while n < most {
-        let byte = bytes[from + n];
-        if 127 < byte {
-            break;
+    let at = place_in_store(cell, place);
+    for (n, byte) in bytes.iter().enumerate() {
+        if !is_plain(*byte) {
+            return n;
         }
-        if byte == ESC {
-            break;
-        }
-        store[at + n] = byte;
-        n += 1;
+        store[at + n] = *byte;
     }
-    n
+    bytes.len()
 }

@@ -6,7 +6,7 @@ ghost use Rattle.store.specs.Lent.{Sized};
 ghost use Rattle.store.specs.Stretch.{Gives};
 
 use crate::cells::{body_byte, count_of, good_count, next_of, place_in_store};
-use rules::{Cursor, Read};
+use rules::Cursor;
 
 // The next bytes of a body in the store, as far as they lie in one cell.
 #[derive(Clone, Copy)]
@@ -24,53 +24,35 @@ pub fn has_left(store: &[u8], cursor: Cursor) -> bool
 }
 
 // The byte at the cursor, which is in its cell, and the place after it.
-fn read_cell(store: &[u8], cursor: Cursor) -> Read
+fn read_cell(store: &[u8], cursor: Cursor) -> (u8, Cursor)
     requires { (Sized store.now) × (cursor.place < most_bytes) }
-    ensures { result ≡ read_cell store.now cursor }
+    ensures { Some result ≡ read_cell store.now cursor }
 {
     let byte = body_byte(store, cursor.cell, cursor.place);
-    Read::Byte(
-        byte,
-        Cursor {
-            cell: cursor.cell,
-            place: cursor.place + 1,
-        },
-    )
+    let place = cursor.place + 1;
+    (byte, Cursor { place, ..cursor })
 }
 
-// The next byte of a body that has bytes left.
-pub fn read_body(store: &[u8], cursor: Cursor) -> Read
+// The next byte of a body that has bytes left, and where the body is read next; none where a cell has a bad count.
+pub fn read_body(store: &[u8], cursor: Cursor) -> Option<(u8, Cursor)>
     requires { Sized store.now }
     ensures { result ≡ read_body store.now cursor }
 {
     let count = count_of(store, cursor.cell);
-    if !good_count(count) {
-        return Read::BadCell;
-    }
-    if count < cursor.place {
-        return Read::BadCell;
+    if !good_count(count) || count < cursor.place {
+        return None;
     }
     if cursor.place < count {
-        return read_cell(store, cursor);
+        return Some(read_cell(store, cursor));
     }
-    let next = next_of(store, cursor.cell);
-    if !good_count(count_of(store, next)) {
-        return Read::BadCell;
+    let cell = next_of(store, cursor.cell);
+    if !good_count(count_of(store, cell)) {
+        return None;
     }
-    read_cell(
-        store,
-        Cursor {
-            cell: next,
-            place: 0,
-        },
-    )
+    Some(read_cell(store, Cursor { cell, place: 0 }))
 }
 
-fn no_stretch() -> Stretch
-    ensures { (result.from ≡ 0) × (result.to ≡ 0) }
-{
-    Stretch { from: 0, to: 0 }
-}
+const NO_STRETCH: Stretch = Stretch { from: 0, to: 0 };
 
 // The bytes that a body's cell still holds; none where the cell can't be read.
 pub fn stretch_of(store: &[u8], cursor: Cursor) -> Stretch
@@ -79,15 +61,9 @@ pub fn stretch_of(store: &[u8], cursor: Cursor) -> Stretch
     ensures within { (result.from ≤ result.to) × (result.to ≤ length store.now) }
     ensures place { result.from < result.to → cursor.place + result.to ≤ result.from + most_bytes }
 {
-    if cursor.cell == 0 {
-        return no_stretch();
-    }
     let count = count_of(store, cursor.cell);
-    if !good_count(count) {
-        return no_stretch();
-    }
-    if count <= cursor.place {
-        return no_stretch();
+    if cursor.cell == 0 || !good_count(count) || count <= cursor.place {
+        return NO_STRETCH;
     }
     Stretch {
         from: place_in_store(cursor.cell, cursor.place),

@@ -1,30 +1,18 @@
 // The store as a page finds it.
-ghost use Rattle.std.specs.Prelude.{◌≡◌, length, replicate};
+ghost use Rattle.std.specs.Prelude.{◌≡◌, replicate};
 ghost use Rattle.rules.specs.Numbers.{store_size};
 ghost use Rattle.rules.specs.Store.{fresh_store};
 ghost use Rattle.store.specs.Lent.{Sized};
 
 use crate::cells::set_next;
 
-fn clear(store: &mut [u8])
-    ensures { store.new ≡ replicate (length store.old) 0 }
-{
-    let mut i = 0;
-    while i < store.len() {
-        store[i] = 0;
-        i += 1;
-    }
-}
-
 // Byte 0 of each cell but the last becomes the number of the cell after it.
 fn link(store: &mut [u8])
     requires { store.old ≡ replicate store_size 0 }
     ensures { store.new ≡ fresh_store }
 {
-    let mut cell: u8 = 0;
-    while cell < 255 {
+    for cell in 0..255u8 {
         set_next(store, cell, cell + 1);
-        cell += 1;
     }
 }
 
@@ -33,6 +21,6 @@ pub fn initialise(store: &mut [u8])
     requires { Sized store.old }
     ensures { store.new ≡ fresh_store }
 {
-    clear(store);
+    store.fill(0);
     link(store);
 }

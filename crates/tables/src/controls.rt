@@ -4,6 +4,7 @@ ghost use Rattle.rules.specs.Coding.{controls, class_of};
 
 use rules::{Class, Control, Effector, Element, Positioning, SingleShift};
 
+#[tactic(auto, unfolding(rules::specs::Coding::class_of, rules::specs::Coding::controls))]
 pub fn class_of(b: u8) -> Class
     ensures { result ≡ class_of b }
 {
@@ -46,11 +47,9 @@ pub fn class_of(b: u8) -> Class
 pub fn control_of(b: u8) -> Control
     ensures { (f : Effector) → result ≡ Control.Formats f → (b < 32) × (get_or controls b Control.Ignored ≡ Control.Formats f) }
 {
-    let class = class_of(b);
-    match class {
+    match class_of(b) {
         Class::Below(control) => control,
-        Class::Column2 => Control::Ignored,
-        Class::Above => Control::Ignored,
+        Class::Column2 | Class::Above => Control::Ignored,
     }
 }
 
@@ -58,11 +57,5 @@ pub fn control_of(b: u8) -> Control
 pub fn is_recorded(b: u8) -> bool
     ensures { result ≡ true → (b < 32) × (get_or controls b Control.Ignored ≡ Control.Recorded) }
 {
-    match class_of(b) {
-        Class::Below(control) => match control {
-            Control::Recorded => true,
-            _ => false,
-        },
-        _ => false,
-    }
+    matches!(class_of(b), Class::Below(Control::Recorded))
 }

@@ -1,62 +1,41 @@
 // The bytes of escape sequences.
 ghost use Rattle.std.specs.Prelude.{◌≡◌};
-ghost use Rattle.rules.specs.Coding.{designators, designator_of, designated_by, final_of, inner_of, after_escape, unfinished};
+ghost use Rattle.rules.specs.Coding.{designator_of, designated_by, final_of, inner_of, after_escape, unfinished};
 
-use rules::{Designated, Element, Final, Inner, Repertoire, Set, Waiting};
+use rules::{Element, Final, Inner, Repertoire, Set, Waiting};
 
-// What is waited for after ESC and each byte of column 2.
-const DESIGNATORS: [Waiting; 16] = [
-    Waiting::Longer,
-    Waiting::Longer,
-    Waiting::Longer,
-    Waiting::Longer,
-    Waiting::Longer,
-    Waiting::Longer,
-    Waiting::Longer,
-    Waiting::Longer,
-    // 2/8 to 2/11
-    Waiting::Designator(Element::G0),
-    Waiting::Designator(Element::G1),
-    Waiting::Designator(Element::G2),
-    Waiting::Designator(Element::G3),
-    Waiting::Longer,
-    // 2/13 to 2/15
-    Waiting::Designator(Element::G1),
-    Waiting::Designator(Element::G2),
-    Waiting::Designator(Element::G3),
-];
-
-fn designators() -> [Waiting; 16]
-    ensures { result ≡ designators }
-{
-    DESIGNATORS
-}
-
+// What is waited for after ESC and a byte of column 2: 2/8 to 2/11 name the elements in order, 2/13 to 2/15 all but the first.
+#[tactic(auto, unfolding(rules::specs::Coding::designator_of, rules::specs::Coding::designators))]
 pub fn designator_of(b: u8) -> Waiting
     ensures { result ≡ designator_of b }
 {
     match b {
-        32..=47 => designators()[(b - 32) as usize],
+        40 => Waiting::Designator(Element::G0),
+        41 | 45 => Waiting::Designator(Element::G1),
+        42 | 46 => Waiting::Designator(Element::G2),
+        43 | 47 => Waiting::Designator(Element::G3),
         _ => Waiting::Longer,
     }
 }
 
 // What the final byte of a designating sequence names.
-pub fn designated_by(b: u8) -> Designated
+#[tactic(auto, unfolding(rules::specs::Coding::designated_by))]
+pub fn designated_by(b: u8) -> Option<Set>
     ensures { result ≡ designated_by b }
 {
     match b {
-        66 => Designated::Names(Set::Characters(Repertoire::Primary)),
-        124 => Designated::Names(Set::Characters(Repertoire::Supplementary)),
-        87 => Designated::Names(Set::Pdi),
-        125 => Designated::Names(Set::Characters(Repertoire::Mosaic)),
-        122 => Designated::Names(Set::Macro),
-        123 => Designated::Names(Set::Characters(Repertoire::Drcs)),
-        _ => Designated::Unassigned,
+        66 => Some(Set::Characters(Repertoire::Primary)),
+        124 => Some(Set::Characters(Repertoire::Supplementary)),
+        87 => Some(Set::Pdi),
+        125 => Some(Set::Characters(Repertoire::Mosaic)),
+        122 => Some(Set::Macro),
+        123 => Some(Set::Characters(Repertoire::Drcs)),
+        _ => None,
     }
 }
 
 // What the final byte of a two-byte sequence does.
+#[tactic(auto, unfolding(rules::specs::Coding::final_of))]
 pub fn final_of(b: u8) -> Final
     ensures { result ≡ final_of b }
 {
@@ -71,6 +50,7 @@ pub fn final_of(b: u8) -> Final
 }
 
 // What a byte after ESC does in a definition.
+#[tactic(auto, unfolding(rules::specs::Coding::inner_of))]
 pub fn inner_of(b: u8) -> Inner
     ensures { result ≡ inner_of b }
 {
@@ -84,23 +64,17 @@ pub fn inner_of(b: u8) -> Inner
 }
 
 // Whether the byte before was ESC, in a definition or outside one.
+#[tactic(auto, unfolding(rules::specs::Coding::after_escape))]
 pub fn after_escape(w: Waiting) -> bool
     ensures { result ≡ after_escape w }
 {
-    match w {
-        Waiting::Escape => true,
-        Waiting::BodyEscape(_) => true,
-        _ => false,
-    }
+    matches!(w, Waiting::Escape | Waiting::BodyEscape(_))
 }
 
 // Whether the page is inside an escape sequence or a definition, or has a row or column byte due.
+#[tactic(auto, unfolding(rules::specs::Coding::unfinished))]
 pub fn unfinished(w: Waiting) -> bool
     ensures { result ≡ unfinished w }
 {
-    match w {
-        Waiting::Nothing => false,
-        Waiting::Shifted(_) => false,
-        _ => true,
-    }
+    !matches!(w, Waiting::Nothing | Waiting::Shifted(_))
 }

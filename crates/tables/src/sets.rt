@@ -31,38 +31,17 @@ pub fn set_of(e: Element, s: Sets) -> Set
 pub fn in_use(e: Element, s: Sets) -> Sets
     ensures { result ≡ in_use e s }
 {
-    let g0 = s.g0;
-    let g1 = s.g1;
-    let g2 = s.g2;
-    let g3 = s.g3;
-    sets(g0, g1, g2, g3, e)
+    Sets { used: e, ..s }
 }
 
 pub fn designate(e: Element, x: Set, s: Sets) -> Sets
     ensures { result ≡ designate e x s }
 {
-    let g0 = s.g0;
-    let g1 = s.g1;
-    let g2 = s.g2;
-    let g3 = s.g3;
-    let used = s.used;
     match e {
-        Element::G0 => sets(x, g1, g2, g3, used),
-        Element::G1 => sets(g0, x, g2, g3, used),
-        Element::G2 => sets(g0, g1, x, g3, used),
-        Element::G3 => sets(g0, g1, g2, x, used),
-    }
-}
-
-fn sets(g0: Set, g1: Set, g2: Set, g3: Set, used: Element) -> Sets
-    ensures { result ≡ record { g0 = g0; g1 = g1; g2 = g2; g3 = g3; used = used } }
-{
-    Sets {
-        g0,
-        g1,
-        g2,
-        g3,
-        used,
+        Element::G0 => Sets { g0: x, ..s },
+        Element::G1 => Sets { g1: x, ..s },
+        Element::G2 => Sets { g2: x, ..s },
+        Element::G3 => Sets { g3: x, ..s },
     }
 }
 
@@ -75,23 +54,13 @@ pub fn shifted_to(s: SingleShift) -> Element
     }
 }
 
+// 7/15 does nothing in the primary and supplementary sets.
+#[tactic(auto, unfolding(rules::specs::Coding::character))]
 pub fn character(x: Repertoire, b: u8) -> Action
     ensures { result ≡ character x b }
 {
-    if b == 127 {
-        return delete(x);
-    }
-    Action::Character(x, b)
-}
-
-// 7/15 does nothing in the primary and supplementary sets.
-fn delete(x: Repertoire) -> Action
-    ensures { result ≡ character x 127 }
-{
     match x {
-        Repertoire::Primary => Action::Idle,
-        Repertoire::Supplementary => Action::Idle,
-        Repertoire::Mosaic => Action::Character(Repertoire::Mosaic, 127),
-        Repertoire::Drcs => Action::Character(Repertoire::Drcs, 127),
+        Repertoire::Primary | Repertoire::Supplementary if b == 127 => Action::Idle,
+        _ => Action::Character(x, b),
     }
 }

@@ -6,6 +6,7 @@ use crate::axis::magnitude;
 use rules::{FieldBox, Interrow, Point, Reach, Rotation, Spacing, Text};
 
 // How far a field of a width and a height reaches, turned about its origin.
+#[tactic(auto, unfolding(rules::specs::Text::turned_box))]
 fn turned_box(rotation: Rotation, width: u32, height: u32) -> FieldBox
     ensures { result ≡ turned_box rotation width height }
 {
@@ -53,27 +54,28 @@ fn turned_box(rotation: Rotation, width: u32, height: u32) -> FieldBox
     }
 }
 
+#[tactic(auto, unfolding(rules::specs::Text::box_of))]
 fn box_of(rotation: Rotation, field: Point) -> FieldBox
     ensures { result ≡ box_of rotation field }
 {
-    let width = magnitude(field.x);
-    let height = magnitude(field.y);
-    turned_box(rotation, width, height)
+    turned_box(rotation, magnitude(field.x), magnitude(field.y))
 }
 
+// Two tables of their own: spacing and rows have other names and other quarters.
 // The intercharacter spacing in quarters of the field; proportional counts as 1.
+#[tactic(auto, unfolding(rules::specs::Text::spacing_quarters))]
 pub fn spacing_quarters(s: Spacing) -> u8
     ensures { result ≡ spacing_quarters s }
 {
     match s {
-        Spacing::One => 4,
+        Spacing::One | Spacing::Proportional => 4,
         Spacing::FiveFourths => 5,
         Spacing::ThreeHalves => 6,
-        Spacing::Proportional => 4,
     }
 }
 
 // The interrow spacing in quarters of the field.
+#[tactic(auto, unfolding(rules::specs::Text::interrow_quarters))]
 pub fn interrow_quarters(s: Interrow) -> u8
     ensures { result ≡ interrow_quarters s }
 {
@@ -88,8 +90,5 @@ pub fn interrow_quarters(s: Interrow) -> u8
 pub fn field_box(text: Text) -> FieldBox
     ensures { result ≡ box_of text.settings.rotation text.field }
 {
-    let settings = text.settings;
-    let rotation = settings.rotation;
-    let field = text.field;
-    box_of(rotation, field)
+    box_of(text.settings.rotation, text.field)
 }

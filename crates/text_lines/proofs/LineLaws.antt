@@ -1,7 +1,6 @@
 -- Characters on one line: each advances the cursor by one stride, which is a step of the packed cursor
-use Rattle.std.specs.Prelude.{◌+◌, ◌*◌, ◌-◌, ◌/◌, ◌%◌, ◌^◌, ◌<◌, ◌≤◌, ◌≡◌}
-use Rattle.text_lines.specs.Prelude.{ℕ, zero, suc, refl, sym, ap, ◌∙◌, subst, Bool, true, false}
-use Rattle.text_lines.specs.Prelude.{arith, le-leb, eqb, eqb-true, zero-mul, suc-mul, le_trans, mul-le-mul_right, div-mul-le_self}
+use Rattle.std.specs.Prelude.{◌+◌, ◌*◌, ◌-◌, ◌/◌, ◌%◌, ◌^◌, ◌<◌, ◌≤◌, ◌≡◌, refl, Bool, true, false, ℕ, zero, suc}
+use Rattle.std.proofs.Common.{sym, ap, ◌∙◌, subst, zero-mul, suc-mul, arith, le-leb}
 use Rattle.rules.specs.declared.Coordinate.{Coordinate}
 use Rattle.rules.specs.declared.FieldBox.{FieldBox}
 use Rattle.rules.specs.declared.Operand.{Operand}
@@ -33,7 +32,7 @@ record Lands (r : Reach) (w : Bool) (n c v : ℕ) : Type 0 where
   pub below : v < screen_side
 
 -- The length of an advance
-abbrev pub advance_of : Text → ℕ
+abbrev advance_of : Text → ℕ
 advance_of t = stride (reach_along t.settings.path t) (spacing_quarters t.settings.spacing)
 
 -- A cursor with its coordinate on the axis of a direction replaced
@@ -240,7 +239,7 @@ stays_along Left t k = k.0
 stays_along Up t k = k.1
 stays_along Down t k = k.1
 
-pub unpack : (p : Point) → p.x < 2 ^ 32 → unpacked (packed p) ≡ p
+unpack : (p : Point) → p.x < 2 ^ 32 → unpacked (packed p) ≡ p
 unpack p h =
     let e : (p.x + 4294967296 * p.y) % 4294967296 ≡ p.x = omega (arith, h) in
     let f : (p.x + 4294967296 * p.y) / 4294967296 ≡ p.y = omega (arith, h) in
@@ -313,41 +312,3 @@ straight t b r w q n c s m be hx hy re qe ne ce we within l is =
     let fits : (i : ℕ) → i < m → Within (reach_along d t) (forwards d) (advance_of t) (cursor_along d t) i
     = λ i h. subst (λ (z : Type 0). z) (λ j. Within (r' j) (we j) (n' j) (ce j) i) (within i h) in
     λ i h p x o. straight_on t s m (kx, ky) l (subst (λ (z : ℕ). IsStep d z s) n' is) fits p o i h x
-
-pub no_line : (t : Text) (s : ℕ) → Straight t 0 s
-no_line t s i h p w o = absurd (omega (arith, h))
-
--- How many strides stay within: a quotient
-strides_fit : (x n i m : ℕ) → m ≡ x / n → i < m → suc i * n ≤ x
-strides_fit x n i m e h =
-    le_trans (mul-le-mul_right {m = suc i} {n = m} n (omega (arith, h))) (subst (λ (z : ℕ). z * n ≤ x) (sym e) (div-mul-le_self x n))
-
-reached : (c p a e x l : ℕ) → a ≡ screen_side - l → e ≤ a → e ≤ screen_side - 256 → x ≡ e - c → 1 ≤ p → p ≤ x → (c + p ≤ screen_side - l) × (c + p < screen_side)
-reached c p a e x l ae f g xe some h = (omega (arith, ae, f, xe, h, some), omega (arith, g, xe, h, some))
-
-pub within_forwards : (r : Reach) (w : Bool) (n c a e x : ℕ) → w ≡ true → (n ≡ 0 → ⊥) → r.before ≤ c → a ≡ screen_side - r.after → e ≡ min a (screen_side - 256) → x ≡ e - c → (i : ℕ) → i < x / n → Within r w n c i
-within_forwards r w n c a e x h some least ae ee xe i k =
-    let p = suc i * n in
-    let f = strides_fit x n i (x / n) refl k in
-    let low = subst (λ (z : ℕ). z ≤ a) (sym ee) (min_left a (screen_side - 256)) in
-    let last = subst (λ (z : ℕ). z ≤ screen_side - 256) (sym ee) (min_right a (screen_side - 256)) in
-    let g = reached c p a e x r.after ae low last xe (omega (arith, some, suc-mul i n)) f in
-    subst (λ (z : Bool). Within r z n c i) (sym h) (least, g.0, g.1)
-
-pub within_backwards : (r : Reach) (w : Bool) (n c : ℕ) → w ≡ false → r.before ≤ c → (i : ℕ) → i < (c - r.before) / n → Within r w n c i
-within_backwards r w n c h least i k =
-    let f = strides_fit (c - r.before) n i ((c - r.before) / n) refl k in
-    subst (λ (z : Bool). Within r z n c i) (sym h) (backwards r.before (suc i * n) c least f)
-  where
-    backwards : (b p c : ℕ) → b ≤ c → p ≤ c - b → b + p ≤ c
-    backwards b p c h k = omega (arith, h, k)
-
-pub within_none : (r : Reach) (w : Bool) (n c i : ℕ) → i < 0 → Within r w n c i
-within_none r w n c i h = absurd (omega (arith, h))
-
-pub held_there : (r : Reach) (c h : ℕ) (p : Coordinate) → p ≡ coordinate_of c → h ≡ held r p → eqb h c ≡ true → held r (coordinate_of c) ≡ c
-held_there r c h p e f g = ap (held r) (sym e) ∙ sym f ∙ eqb-true h c g
-
--- A step, by the direction
-pub step_in : (d D : Path) (n s : ℕ) → d ≡ D → IsStep D n s → IsStep d n s
-step_in d D n s e k = subst (λ (z : Path). IsStep z n s) (sym e) k

@@ -7,7 +7,7 @@ ghost use Rattle.text_lines.specs.Line.{packed, unpacked, Within, IsStep, Straig
 
 use moves::movers::{cursor_along, forwards, reach_in};
 use rules::{Path, Point, Reach, SCREEN_SIDE, Text};
-use text::axis::{LAST, PATTERNS, coordinate_of, held, less, min, stride};
+use text::axis::{LAST, PATTERNS, coordinate_of, held, stride};
 use text::field::{field_box, spacing_quarters};
 
 // The cursor of so many characters is the last plus the step, as packed numbers.
@@ -21,7 +21,7 @@ pub struct Line {
 pub fn packed(p: Point) -> u64
     ensures { (result ≡ packed p) × (unpacked result ≡ p) }
 {
-    p.x as u64 + PATTERNS * (p.y as u64)
+    p.x as u64 + PATTERNS * p.y as u64
 }
 
 pub fn unpacked(n: u64) -> Point
@@ -46,17 +46,15 @@ fn strides_within(reach: Reach, forwards: bool, length: u64, cursor: u32) -> u64
 {
     let from = cursor as u64;
     let before = reach.before as u64;
-    if length == 0 {
-        return 0;
-    }
-    if from < before {
+    if length == 0 || from < before {
         return 0;
     }
     if forwards {
-        let edge = min(less(SCREEN_SIDE, reach.after as u64), LAST);
-        return less(edge, from) / length;
+        let edge = SCREEN_SIDE.saturating_sub(reach.after as u64).min(LAST);
+        edge.saturating_sub(from) / length
+    } else {
+        (from - before) / length
     }
-    (from - before) / length
 }
 
 // What is added to a packed cursor, and wraps: a length in a direction.
@@ -66,9 +64,9 @@ fn step_of(direction: Path, length: u64) -> u64
     let tall = length % PATTERNS * PATTERNS;
     match direction {
         Path::Right => length,
-        Path::Left => std::num::wrapping_sub_u64(0, length),
+        Path::Left => length.wrapping_neg(),
         Path::Up => tall,
-        Path::Down => std::num::wrapping_sub_u64(0, tall),
+        Path::Down => tall.wrapping_neg(),
     }
 }
 
@@ -77,20 +75,15 @@ pub fn line_of(text: Text) -> Line
     ensures { Straight text result.most result.step }
 {
     let bounds = field_box(text);
-    let cursor = text.cursor;
-    if !is_held(bounds.x, cursor.x) {
+    if !is_held(bounds.x, text.cursor.x) || !is_held(bounds.y, text.cursor.y) {
         return Line { most: 0, step: 0 };
     }
-    if !is_held(bounds.y, cursor.y) {
-        return Line { most: 0, step: 0 };
-    }
-    let settings = text.settings;
-    let path = settings.path;
-    let spacing = settings.spacing;
+    let path = text.settings.path;
     let reach = reach_in(path, bounds);
-    let length = stride(reach, spacing_quarters(spacing));
+    let length = stride(reach, spacing_quarters(text.settings.spacing));
     let from = cursor_along(path, text);
-    let most = strides_within(reach, forwards(path), length, from);
-    let step = step_of(path, length);
-    Line { most, step }
+    Line {
+        most: strides_within(reach, forwards(path), length, from),
+        step: step_of(path, length),
+    }
 }

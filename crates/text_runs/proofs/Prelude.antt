@@ -1,7 +1,3 @@
 -- What the files of this crate use of the libraries, under one name
-pub use mathlib.Core.Path.{sym, ◌∙◌, refl, subst}
-pub use Prim.Native.Nat.{ℕ}
-pub use native.Mathlib.Omega.{arith}
-pub use lib.ListN.{length, get_or}
-pub use borrow.Author.Tests.{eqb-true, not-true, not-false}
-pub use borrow.Author.Rules.{rules}
+pub use Rattle.std.specs.Prelude.{refl, ℕ, length, get_or, take}
+pub use Rattle.std.proofs.Common.{sym, ◌∙◌, subst, arith, length-take-le, rules}

@@ -9,23 +9,15 @@ ghost use Rattle.line_runs.specs.Characters.{IsCharacter, Room, AtOnce, ClosesTo
 use commands::closing::new_command;
 use commands::opening::put_mark;
 use data_bytes::resting;
-use drawing_runs::{Ran, most_steps};
-use line_runs::{Common, Hand, Put, common_of, is_character, put_rest};
+use drawing_runs::{Ran, TEXT, Taken, most_steps};
+use line_runs::{Common, Hand, common_of, is_character, put_rest};
 use moves::characters::spaces;
 use moves::movers::{advanced, format};
 use records::{put_words, with_code};
 use rules::{Command, Control, Look, ORIGIN, Operand, Pen, RECORD_SIZE, Repertoire, Set, Text};
-use setting_runs::TEXT;
 use settings::closed_text;
 use tables::controls::control_of;
 use text::cursor::aligned;
-
-// How many characters were put, and the pen after them; an operand that was begun before is still with it.
-#[derive(Clone, Copy)]
-struct Typed {
-    count: usize,
-    pen: Pen,
-}
 
 // What a character leaves of a text.
 fn typed_on(set: Repertoire, code: u8, hand: Hand) -> Hand
@@ -33,9 +25,10 @@ fn typed_on(set: Repertoire, code: u8, hand: Hand) -> Hand
 {
     if spaces(set, code) {
         let text = advanced(hand.text);
-        return Hand { moved: true, text };
+        Hand { moved: true, text }
+    } else {
+        hand
     }
-    hand
 }
 
 // Puts one character, wherever the cursor goes.
@@ -43,20 +36,19 @@ fn put_one(
     common: Common,
     hand: Hand,
     bytes: &[u8],
-    from: usize,
     count: usize,
     out: &mut [u8],
     at: usize,
-) -> Put
-    requires { (from + count < length bytes.now) × (at + (40 * count + room_for_step) ≤ length out.old) }
-    ensures goes { Goes common bytes.now from at count hand.moved hand.text out.old
-        result.count result.hand.moved result.hand.text out.new }
+) -> Taken<Hand>
+    requires { (count < length bytes.now) × (at + (40 * count + room_for_step) ≤ length out.old) }
+    ensures goes { Goes common bytes.now 0 at count hand.moved hand.text out.old
+        result.count result.left.moved result.left.text out.new }
     ensures most { (count ≤ result.count) × (result.count ≤ count + 1)
-        × (IsCharacter common (get_or bytes.now (from + count) 0) → result.count ≡ count + 1) }
+        × (IsCharacter common (get_or bytes.now count 0) → result.count ≡ count + 1) }
 {
-    let code = bytes[from + count];
+    let code = bytes[count];
     if !is_character(common, code) {
-        return Put { count, hand };
+        return Taken { count, left: hand };
     }
     let text = hand.text;
     let place = at + RECORD_SIZE * count;
@@ -69,10 +61,9 @@ fn put_one(
         ORIGIN,
         common.pel,
     );
-    let set = common.set;
-    Put {
+    Taken {
         count: count + 1,
-        hand: typed_on(set, code, hand),
+        left: typed_on(common.set, code, hand),
     }
 }
 
@@ -81,23 +72,21 @@ fn put_some(
     common: Common,
     hand: Hand,
     bytes: &[u8],
-    from: usize,
     count: usize,
-    most: usize,
     out: &mut [u8],
     at: usize,
-) -> Put
-    requires { (count < most) × (from + most ≤ length bytes.now) × Room at most out.old
-        × IsCharacter common (get_or bytes.now (from + count) 0) }
-    ensures goes { Goes common bytes.now from at count hand.moved hand.text out.old
-        result.count result.hand.moved result.hand.text out.new }
-    ensures most { (count < result.count) × (result.count ≤ most) }
+) -> Taken<Hand>
+    requires { (count < length bytes.now) × Room at (length bytes.now) out.old
+        × IsCharacter common (get_or bytes.now count 0) }
+    ensures goes { Goes common bytes.now 0 at count hand.moved hand.text out.old
+        result.count result.left.moved result.left.text out.new }
+    ensures most { (count < result.count) × (result.count ≤ length bytes.now) }
 {
-    let rest = put_rest(common, hand, bytes, from, count, most, out, at);
-    if rest.count == most {
+    let rest = put_rest(common, hand, bytes, count, out, at);
+    if rest.count == bytes.len() {
         return rest;
     }
-    put_one(common, rest.hand, bytes, from, rest.count, out, at)
+    put_one(common, rest.left, bytes, rest.count, out, at)
 }
 
 // The pen with such a text.
@@ -105,9 +94,10 @@ fn pen_of(hand: Hand, pen: Pen) -> Pen
     ensures { result ≡ pen_of hand.moved hand.text pen }
 {
     if hand.moved {
-        return aligned(hand.text, pen);
+        aligned(hand.text, pen)
+    } else {
+        pen
     }
-    pen
 }
 
 // Puts characters, a line at a time: their records, and the cursor moved by each.
@@ -115,29 +105,21 @@ fn put_characters(
     common: Common,
     hand: Hand,
     bytes: &[u8],
-    from: usize,
     count: usize,
-    most: usize,
     out: &mut [u8],
     at: usize,
-) -> Put
-    requires { (count ≤ most) × (from + most ≤ length bytes.now) × Room at most out.old }
-    ensures goes { Goes common bytes.now from at count hand.moved hand.text out.old
-        result.count result.hand.moved result.hand.text out.new }
-    ensures most { (count ≤ result.count) × (result.count ≤ most) }
+) -> Taken<Hand>
+    requires { (count ≤ length bytes.now) × Room at (length bytes.now) out.old }
+    ensures goes { Goes common bytes.now 0 at count hand.moved hand.text out.old
+        result.count result.left.moved result.left.text out.new }
+    ensures most { (count ≤ result.count) × (result.count ≤ length bytes.now) }
 {
-    let mut hand = hand;
-    let mut n = count;
-    while n < most {
-        let code = bytes[from + n];
-        if !is_character(common, code) {
-            break;
-        }
-        let put = put_some(common, hand, bytes, from, n, most, out, at);
-        n = put.count;
-        hand = put.hand;
+    let mut put = Taken { count, left: hand };
+    // It doesn't go on by one: a turn puts as many characters as stand on a line.
+    while put.count < bytes.len() && is_character(common, bytes[put.count]) {
+        put = put_some(common, put.left, bytes, put.count, out, at);
     }
-    Put { count: n, hand }
+    put
 }
 
 // Does what a format effector says, after its record; nothing where the byte is none.
@@ -145,64 +127,64 @@ fn put_format(
     common: Common,
     pen: Pen,
     bytes: &[u8],
-    from: usize,
     count: usize,
     out: &mut [u8],
     at: usize,
-) -> Typed
-    requires { (from + count < length bytes.now) × (at + (40 * count + room_for_step) ≤ length out.old) }
-    ensures puts { Puts common bytes.now from at count pen out.old result.count result.pen out.new }
+) -> Taken<Pen>
+    requires { (count < length bytes.now) × (at + (40 * count + room_for_step) ≤ length out.old) }
+    ensures puts { Puts common bytes.now 0 at count pen out.old result.count result.left out.new }
     ensures most { (count ≤ result.count) × (result.count ≤ count + 1) }
 {
-    let code = bytes[from + count];
+    let code = bytes[count];
     let control = control_of(code);
     if let Control::Formats(effector) = control {
         let place = at + RECORD_SIZE * count;
         put_mark(common.ink, 7, code, pen.point, common.pel, out, place);
-        return Typed {
+        return Taken {
             count: count + 1,
-            pen: format(effector, pen),
+            left: format(effector, pen),
         };
     }
-    Typed { count, pen }
+    Taken { count, left: pen }
 }
 
-// Puts characters and format effectors, from a pen whose text went on alone.
+// Puts characters and format effectors, from a pen whose text went on alone. An operand that was begun before is still with it. Each
+// turn takes as many characters as come, so no iterator counts ahead.
 fn put_text(
     common: Common,
     hand: Hand,
     pen: Pen,
     bytes: &[u8],
-    from: usize,
-    most: usize,
     out: &mut [u8],
     at: usize,
-) -> Typed
-    requires { (from + most ≤ length bytes.now) × Room at most out.old × ((pen_of hand.moved hand.text pen).text ≡ hand.text) }
-    ensures puts { Puts common bytes.now from at 0 (pen_of hand.moved hand.text pen) out.old
-        result.count result.pen out.new }
-    ensures most { result.count ≤ most }
+) -> Taken<Pen>
+    requires { Room at (length bytes.now) out.old × ((pen_of hand.moved hand.text pen).text ≡ hand.text) }
+    ensures puts { Puts common bytes.now 0 at 0 (pen_of hand.moved hand.text pen) out.old
+        result.count result.left out.new }
+    ensures most { result.count ≤ length bytes.now }
 {
     let mut count: usize = 0;
     let mut hand = hand;
     let mut pen = pen;
     loop {
-        let put = put_characters(common, hand, bytes, from, count, most, out, at);
-        pen = pen_of(put.hand, pen);
-        if put.count == most {
-            return Typed {
+        let put = put_characters(common, hand, bytes, count, out, at);
+        pen = pen_of(put.left, pen);
+        if put.count == bytes.len() {
+            return Taken {
                 count: put.count,
-                pen,
+                left: pen,
             };
         }
-        let formatted = put_format(common, pen, bytes, from, put.count, out, at);
+        let formatted = put_format(common, pen, bytes, put.count, out, at);
         if formatted.count == put.count {
             return formatted;
         }
         count = formatted.count;
-        pen = formatted.pen;
-        let text = pen.text;
-        hand = Hand { moved: false, text };
+        pen = formatted.left;
+        hand = Hand {
+            moved: false,
+            text: pen.text,
+        };
     }
 }
 
@@ -210,10 +192,7 @@ fn put_text(
 pub fn closes_at_once(command: Command, operand: Operand) -> bool
     ensures { result ≡ true → AtOnce command operand }
 {
-    if command.opcode == 0 {
-        return true;
-    }
-    command.opcode == TEXT && operand.count == 0
+    command.opcode == 0 || command.opcode == TEXT && operand.count == 0
 }
 
 // What closing leaves of a text: TEXT holds the cursor on the screen.
@@ -222,11 +201,11 @@ fn closed_by(command: Command, text: Text) -> Hand
         → ((pen_of result.moved result.text p).text ≡ result.text) × ClosesTo p command (pen_of result.moved result.text p) }
 {
     if command.opcode == TEXT {
-        let due = command.due;
-        let text = closed_text(due, text);
-        return Hand { moved: true, text };
+        let text = closed_text(command.due, text);
+        Hand { moved: true, text }
+    } else {
+        Hand { moved: false, text }
     }
-    Hand { moved: false, text }
 }
 
 // Characters and format effectors one after the other, where the open command closes at once.
@@ -236,33 +215,31 @@ pub fn run_text(
     command: Command,
     look: Look,
     bytes: &[u8],
-    from: usize,
-    to: usize,
     out: &mut [u8],
     at: usize,
-) -> Ran
-    requires { (AtOnce command pen.operand) × (from ≤ to) × (to ≤ length bytes.now) × (at ≤ length out.old) }
-    ensures ran { RunsTo (Set.Characters set) bytes.now from pen command look at
+) -> Ran<Pen>
+    requires { (AtOnce command pen.operand) × (at ≤ length out.old) }
+    ensures ran { RunsTo (Set.Characters set) bytes.now 0 pen command look at
         out.old result out.new }
-    ensures most { from + result.count ≤ to }
+    ensures most { result.count ≤ length bytes.now }
 {
-    let most = most_steps(to - from, out.len() - at);
+    let most = most_steps(bytes.len(), out.len() - at);
     let common = common_of(set, look);
     let hand = closed_by(command, pen.text);
-    let put = put_text(common, hand, pen, bytes, from, most, out, at);
+    let put = put_text(common, hand, pen, &bytes[..most], out, at);
     let count = put.count;
     if count == 0 {
         return Ran {
             count,
             at,
-            pen,
+            left: pen,
             command,
         };
     }
     Ran {
         count,
         at: at + RECORD_SIZE * count,
-        pen: resting(put.pen),
+        left: resting(put.left),
         command: new_command(0, ORIGIN),
     }
 }

@@ -8,20 +8,21 @@ use Rattle.rules.specs.Numbers.{can, room_for_step}
 use Rattle.rules.specs.Choice.{pick}
 use Rattle.rules.specs.Drawing.{act}
 use Rattle.pens.specs.Tips.{pen_of}
+use Rattle.pens.specs.declared.tips.Tip.{Tip}
 use Rattle.figures.specs.Carried.{carry_out, drawing_of}
 use Rattle.drawing_runs.specs.Run.{standing}
-use Rattle.drawing_runs.specs.declared.Drew.{Drew}
+use Rattle.drawing_runs.specs.declared.Ran.{Ran}
 use Rattle.progress.specs.declared.Progress.{Progress}
 use Rattle.progress.specs.Progress.{at_depth, ran_on}
 
 -- From what a run drew, x, to r: nothing more, or the next byte is a CAN and is drawn, the text staying as it is
-pub data CancelsTo (bytes : List ℕ) (from : ℕ) (t : Text) (l : Look) (x : Drew) (out : List ℕ) : Drew → List ℕ → Type 0 where
-  kept : CancelsTo bytes from t l x out x out
-  cancelled : {r : Drew} {left : List ℕ} → r.count ≡ suc x.count → get_or bytes (from + x.count) 0 ≡ can
+pub data CancelsTo (bytes : List ℕ) (t : Text) (l : Look) (x : Ran Tip) (out : List ℕ) : Ran Tip → List ℕ → Type 0 where
+  kept : CancelsTo bytes t l x out x out
+  cancelled : {r : Ran Tip} {left : List ℕ} → r.count ≡ suc x.count → get_or bytes x.count 0 ≡ can
       → x.at + room_for_step ≤ length out
-      → ((m : List ℕ) → standing (pen_of t r.tip) r.command l m r.at left
-      ≡ carry_out (act (Cancel can)) (drawing_of (pen_of t x.tip) x.command l m) x.at out)
-      → CancelsTo bytes from t l x out r left
+      → ((m : List ℕ) → standing (pen_of t r.left) r.command l m r.at left
+      ≡ carry_out (act (Cancel can)) (drawing_of (pen_of t x.left) x.command l m) x.at out)
+      → CancelsTo bytes t l x out r left
 
 -- The progress after so many bytes, the last a CAN where they are more than the run drew: then no body runs
 abbrev pub cancelled_on : ℕ → ℕ → ℕ → Progress → Progress

@@ -8,65 +8,54 @@ ghost use Rattle.turn_runs.specs.Cancelling.{CancelsTo, cancelled_on};
 use crate::drawn::{none_begun, tip_after};
 use command_steps::opening::mark_next;
 use data_bytes::role_due;
-use drawing_runs::Drew;
+use drawing_runs::Ran;
 use figures::finishing::finishes_apart;
 use opcodes::row_of;
-use progress::{Progress, after_run, at_depth};
+use pens::tips::Tip;
+use progress::{Progress, after_run};
 use records::head_of;
 use rules::{CAN, Look, ROOM_FOR_STEP};
 
 // Whether a CAN comes at a place, and so many bytes of the output are enough for its step.
-fn comes_next(bytes: &[u8], place: usize, to: usize, free: usize) -> bool
-    requires { (place ≤ to) × (to ≤ length bytes.now) }
-    ensures { result ≡ true → (place < to) × (get_or bytes.now place 0 ≡ can) × (room_for_step ≤ free) }
+fn comes_next(bytes: &[u8], place: usize, free: usize) -> bool
+    ensures { result ≡ true
+        → (place < length bytes.now) × (get_or bytes.now place 0 ≡ can) × (room_for_step ≤ free) }
 {
-    if place == to {
-        return false;
-    }
-    if bytes[place] == CAN {
-        return ROOM_FOR_STEP <= free;
-    }
-    false
+    place < bytes.len() && bytes[place] == CAN && ROOM_FOR_STEP <= free
 }
 
 // Draws the CAN that comes after what was drawn, where no operand is begun and the open command finishes by a figure or by none; the
 // ordinary step does the rest.
-pub(crate) fn draw_cancel(
-    drew: Drew,
-    look: Look,
-    bytes: &[u8],
-    from: usize,
-    to: usize,
-    out: &mut [u8],
-) -> Drew
-    requires { (from + drew.count ≤ to) × (to ≤ length bytes.now) × (drew.at ≤ length out.old) }
-    ensures cancels { (t : Text) → CancelsTo bytes.now from t look drew out.old result out.new }
-    ensures most { from + result.count ≤ to }
+pub(crate) fn draw_cancel(drew: Ran<Tip>, look: Look, bytes: &[u8], out: &mut [u8]) -> Ran<Tip>
+    requires { (drew.count ≤ length bytes.now) × (drew.at ≤ length out.old) }
+    ensures cancels { (t : Text) → CancelsTo bytes.now t look drew out.old result out.new }
+    ensures most { result.count ≤ length bytes.now }
 {
     let at = drew.at;
-    if !comes_next(bytes, from + drew.count, to, out.len() - at) {
+    if !comes_next(bytes, drew.count, out.len() - at) {
         return drew;
     }
-    let tip = drew.tip;
-    let operand = tip.operand;
     let command = drew.command;
     let row = row_of(command.opcode);
-    if finishes_apart(role_due(row, command)) {
-        return drew;
-    }
-    if !none_begun(operand) {
+    if finishes_apart(role_due(row, command)) || !none_begun(drew.left.operand) {
         return drew;
     }
     let ink = head_of(look, 0, 0, 0, 0);
-    let next = mark_next(CAN, row, tip.point, command, ink, look.domain.pel, out, at);
-    let tip = tip_after(1, next.moved, next.point, tip);
-    let command = next.command;
-    let count = drew.count + 1;
-    Drew {
-        count,
-        at: next.at,
-        tip,
+    let next = mark_next(
+        CAN,
+        row,
+        drew.left.point,
         command,
+        ink,
+        look.domain.pel,
+        out,
+        at,
+    );
+    Ran {
+        count: drew.count + 1,
+        at: next.at,
+        left: tip_after(1, next.moved, next.point, drew.left),
+        command: next.command,
     }
 }
 
@@ -78,7 +67,7 @@ pub(crate) fn after_cancel(progress: Progress, drew: usize, ran: usize, written:
 {
     let after = after_run(progress, ran, written);
     if drew < ran {
-        return at_depth(after, 0);
+        return Progress { depth: 0, ..after };
     }
     after
 }

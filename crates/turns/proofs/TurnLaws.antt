@@ -1,15 +1,13 @@
 -- A turn by its parts: whether something is left, the byte that is next, and each way in which the turn comes out
-use Rattle.std.specs.Prelude.{◌+◌, ◌-◌, ◌≤◌, ◌<◌, ◌≡◌, ◌∷◌}
+use Rattle.std.specs.Prelude.{◌+◌, ◌-◌, ◌≤◌, ◌<◌, ◌≡◌, ◌∷◌, Option, Some, None}
 use Rattle.turns.proofs.Prelude.{ℕ, zero, suc, add-zero, add-one, sub-one, arith, refl, sym, ap, ◌∙◌, Bool, true, false, List, [], length, drop, get_or, drop_of_length-le, drop-cons, get_or-drop, ltb, leb, lt-ltb, le-ltb, leb-true, leb-false}
 use Rattle.rules.specs.declared.Answer.TheVariants.{Done, Full, Refused}
 use Rattle.rules.specs.declared.Bodies.{Bodies}
 use Rattle.rules.specs.declared.Cursor.{Cursor}
 use Rattle.rules.specs.declared.Drawing.{Drawing}
-use Rattle.rules.specs.declared.Read.{Read}
-use Rattle.rules.specs.declared.Read.TheVariants.{Byte, BadCell}
 use Rattle.rules.specs.declared.Refusal.TheVariants.{BudgetUsed, OutOfRange}
 use Rattle.rules.specs.Numbers.{room_for_step}
-use Rattle.rules.specs.Bodies.{body_at, with_body, read_body, unspent}
+use Rattle.rules.specs.Bodies.{nowhere, body_at, with_body, read_body, unspent}
 use Rattle.rules.specs.Step.{State, with_bodies, remove_spent, Source, FromBody, Sought, NothingLeft, Spoilt, Found, from_body, seek_at, seek, Move, Stops, Goes, interpret}
 use Rattle.rules.specs.Turn.{Turn, Ends, stopped, on_move, on_sought, turn}
 use Rattle.rules.specs.Reading.{consumed_by}
@@ -39,7 +37,7 @@ some_of_piece d at l q h = leb-false (length l) at (left_of_piece d at l h ∙ q
 
 -- The next byte, and the place of the piece after it
 
-pub next_of_piece : (d at : ℕ) (st : List ℕ) (y : Bodies) (l : List ℕ) → d ≡ 0 → Byte (get_or l at 0) (record { cell = 0; place = 0 }) ≡ next_byte d st y (drop at l)
+pub next_of_piece : (d at : ℕ) (st : List ℕ) (y : Bodies) (l : List ℕ) → d ≡ 0 → Some (get_or l at 0, nowhere) ≡ next_byte d st y (drop at l)
 next_of_piece d at st y l h = rw (h, get_or-drop at l 0 0, add-zero at)
 
 pub next_of_body : (d : ℕ) (st : List ℕ) (y : Bodies) (bs : List ℕ) → (d ≡ 0 → ⊥) → read_body st (body_at y (d - 1)) ≡ next_byte d st y bs
@@ -61,14 +59,14 @@ none_sought zero w [] e = refl
 none_sought zero w (b ∷ bs) e = false_true e
 none_sought (suc i) w bs e = false_true e
 
-abbrev sought_by : ℕ → Read → State → List ℕ → Sought
-sought_by d BadCell w bs = Spoilt
-sought_by d (Byte b x) w bs = Found b (advanced d x w) (source_at d) (drop (consumed_by (source_at d) 0) bs)
+abbrev sought_by : ℕ → Option (ℕ × Cursor) → State → List ℕ → Sought
+sought_by d None w bs = Spoilt
+sought_by d (Some (b, x)) w bs = Found b (advanced d x w) (source_at d) (drop (consumed_by (source_at d) 0) bs)
 
-body_sought : (r : Read) (i : ℕ) (w : State) (bs : List ℕ) → w.session.bodies.depth ≡ suc i → from_body r i w bs ≡ sought_by (suc i) r w bs
+body_sought : (r : Option (ℕ × Cursor)) (i : ℕ) (w : State) (bs : List ℕ) → w.session.bodies.depth ≡ suc i → from_body r i w bs ≡ sought_by (suc i) r w bs
 unfolding from_body
-body_sought BadCell i w bs e = refl
-body_sought (Byte b x) i w bs e = ap (λ (n : ℕ). Found b (with_bodies (with_body n i x w.session.bodies) w) FromBody bs) e
+body_sought None i w bs e = refl
+body_sought (Some (b, x)) i w bs e = ap (λ (n : ℕ). Found b (with_bodies (with_body n i x w.session.bodies) w) FromBody bs) e
 
 byte_sought : (d : ℕ) (w : State) (bs : List ℕ) → w.session.bodies.depth ≡ d → nothing_left d bs ≡ false
     → seek_at d w bs ≡ sought_by d (next_byte d w.store w.session.bodies bs) w bs
@@ -77,15 +75,19 @@ byte_sought zero w [] e h = true_false h
 byte_sought zero w (b ∷ bs) e h = refl
 byte_sought (suc i) w bs e h = body_sought (read_body w.store (body_at w.session.bodies i)) i w bs e
 
-full_sought : (d n : ℕ) (r : Read) (w : State) (bs : List ℕ) → on_sought true n (sought_by d r w bs) w ≡ Ends Full w
+full_sought : (d n : ℕ) (r : Option (ℕ × Cursor)) (w : State) (bs : List ℕ) → on_sought true n (sought_by d r w bs) w ≡ Ends Full w
 unfolding on_sought
-full_sought d n BadCell w bs = refl
-full_sought d n (Byte b x) w bs = refl
+full_sought d n None w bs = refl
+full_sought d n (Some (b, x)) w bs = refl
 
-spent_sought : (d : ℕ) (r : Read) (w : State) (bs : List ℕ) → on_sought false 0 (sought_by d r w bs) w ≡ stopped BudgetUsed w
+spent_sought : (d : ℕ) (r : Option (ℕ × Cursor)) (w : State) (bs : List ℕ) → on_sought false 0 (sought_by d r w bs) w ≡ stopped BudgetUsed w
 unfolding on_sought
-spent_sought d BadCell w bs = refl
-spent_sought d (Byte b x) w bs = refl
+spent_sought d None w bs = refl
+spent_sought d (Some (b, x)) w bs = refl
+
+pub none_found : (r : Option (ℕ × Cursor)) → ((x : ℕ × Cursor) → r ≡ Some x → ⊥) → r ≡ None
+none_found (Some x) h = absurd (h x refl)
+none_found None h = refl
 
 -- What a move leaves is the same for every byte and rest of the piece
 move_leaves : (n : ℕ) (m : Move) (b : ℕ) (s : Source) (bs : List ℕ) (w : State) (at written : ℕ) (out : List ℕ)
@@ -94,13 +96,10 @@ unfolding on_move leaves
 move_leaves n (Stops r) b s bs w at written out = refl
 move_leaves n (Goes u rs) b s bs w at written out = refl
 
-abbrev nowhere : Cursor
-nowhere = record { cell = 0; place = 0 }
-
 -- A turn from p, where no spent body runs
-module _ (budget : ℕ) (p : Progress) (cells places firsts : List ℕ) (drawing : Drawing) (st piece out : List ℕ) (free : ℕ) (none : NoneSpent p.depth cells places st) where
+module _ (budget : ℕ) (p : Progress) (cursors : List Cursor) (firsts : List ℕ) (drawing : Drawing) (st piece out : List ℕ) (free : ℕ) (none : NoneSpent p.depth cursors st) where
   abbrev entry : State
-  entry = state_at budget p cells places firsts drawing st
+  entry = state_at budget p cursors firsts drawing st
 
   abbrev rest : List ℕ
   rest = drop p.at piece
@@ -118,20 +117,20 @@ module _ (budget : ℕ) (p : Progress) (cells places firsts : List ℕ) (drawing
   comes t l m g h = rw (removed, m, g) h
 
   pub turn_done : nothing_left p.depth rest ≡ true → (r : Turned) → r ≡ record { course = Ends·course Done; progress = p; cursor = nowhere }
-      → Answers (left_of budget p r cells places firsts drawing st out)
+      → Answers (left_of budget p r cursors firsts drawing st out)
   unfolding seek on_sought leaves
   turn_done h r g = comes (Ends Done entry) _ refl (rw (none_sought p.depth entry rest h)) (rw g)
 
   module _ (h : nothing_left p.depth rest ≡ false) where
-    abbrev read : Read
-    read = next_byte p.depth st (bodies_of p.depth cells places) rest
+    abbrev read : Option (ℕ × Cursor)
+    read = next_byte p.depth st (bodies_of p.depth cursors) rest
 
     found : seek entry rest ≡ sought_by p.depth read entry rest
     unfolding seek
     found = byte_sought p.depth entry rest refl h
 
     pub turn_full : free < room_for_step → (r : Turned) → r ≡ record { course = Ends·course Full; progress = p; cursor = nowhere }
-        → Answers (left_of budget p r cells places firsts drawing st out)
+        → Answers (left_of budget p r cursors firsts drawing st out)
     unfolding leaves
     turn_full k r g =
         comes (Ends Full entry) _ refl (rw (found, lt-ltb free room_for_step k) (full_sought p.depth (budget - p.steps) read entry rest)) (rw g)
@@ -141,21 +140,21 @@ module _ (budget : ℕ) (p : Progress) (cells places firsts : List ℕ) (drawing
       enough = le-ltb free room_for_step k
 
       pub turn_spent : budget ≤ p.steps → (r : Turned) → r ≡ record { course = Ends·course (Refused BudgetUsed); progress = p; cursor = nowhere }
-          → Answers (left_of budget p r cells places firsts drawing st out)
+          → Answers (left_of budget p r cursors firsts drawing st out)
       unfolding leaves
       turn_spent n r g =
           comes {n = 0} (stopped BudgetUsed entry) _ (omega arith) (rw (found, enough) (spent_sought p.depth read entry rest)) (rw g)
 
-      module _ (n : p.steps < budget) (x : Read) (i : x ≡ read) where
+      module _ (n : p.steps < budget) (x : Option (ℕ × Cursor)) (i : x ≡ read) where
         some_left : budget - p.steps ≡ suc (budget - (p.steps + 1))
         some_left = omega arith
 
-        pub turn_bad : x ≡ BadCell → (r : Turned) → r ≡ record { course = Ends·course (Refused OutOfRange); progress = p; cursor = nowhere }
-            → Answers (left_of budget p r cells places firsts drawing st out)
+        pub turn_bad : x ≡ None → (r : Turned) → r ≡ record { course = Ends·course (Refused OutOfRange); progress = p; cursor = nowhere }
+            → Answers (left_of budget p r cursors firsts drawing st out)
         unfolding on_sought leaves
         turn_bad j r g = comes (stopped OutOfRange entry) _ some_left (rw (found, ← i, j, enough)) (rw g)
 
-        pub turn_byte : {b : ℕ} {y : Cursor} → x ≡ Byte b y → (l : Left) → l ≡ leaves (interpreted p.depth y b entry) p.at p.written out → Answers l
+        pub turn_byte : {b : ℕ} {y : Cursor} → x ≡ Some (b, y) → (l : Left) → l ≡ leaves (interpreted p.depth y b entry) p.at p.written out → Answers l
         unfolding on_sought interpreted
         turn_byte {b} {y} j l g =
             let s = source_at p.depth in

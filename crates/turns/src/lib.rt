@@ -14,7 +14,7 @@ ghost use Rattle.steps.specs.View.{state_at, left_of, NoneSpent, DrawDue, RoomBy
 
 use bodies::innermost;
 use progress::Progress;
-use rules::{Answer, Cursor, ROOM_FOR_STEP, Read, Refusal};
+use rules::{Answer, Cursor, NOWHERE, ROOM_FOR_STEP, Refusal};
 use steps::{Onward, Turned, ends, interpret};
 
 fn nothing_left(depth: u8, piece: &[u8], at: usize) -> bool
@@ -23,24 +23,23 @@ fn nothing_left(depth: u8, piece: &[u8], at: usize) -> bool
     depth == 0 && piece.len() <= at
 }
 
-// The byte of the innermost body, else of the piece.
+// The byte of the innermost body, and where that is read on, else of the piece; none where a cell has a bad count.
 fn next_byte(
     store: &[u8],
-    cells: &[u8; 8],
-    places: &[u8; 8],
+    cursors: &[Cursor; 8],
     depth: u8,
     piece: &[u8],
     at: usize,
-) -> Read
+) -> Option<(u8, Cursor)>
     requires { (Sized store.now) × (depth ≤ 8) × (depth ≡ 0 → at < length piece.now) }
     ensures { result
-        ≡ next_byte depth store.now (bodies_of depth cells.now places.now)
+        ≡ next_byte depth store.now (bodies_of depth cursors.now)
         (drop at piece.now) }
 {
     if depth == 0 {
-        return Read::Byte(piece[at], Cursor { cell: 0, place: 0 });
+        return Some((piece[at], NOWHERE));
     }
-    innermost(store, cells, places, depth)
+    innermost(store, cursors, depth)
 }
 
 // The place of the piece once a byte is read.
@@ -57,19 +56,18 @@ pub fn turn(
     progress: Progress,
     budget: u32,
     free: usize,
-    cells: &mut [u8; 8],
-    places: &mut [u8; 8],
+    cursors: &mut [Cursor; 8],
     firsts: &mut [u8; 96],
     store: &mut [u8],
     piece: &[u8],
 ) -> Turned
     requires { (Sized store.old) × (progress.depth ≤ 8) × (waiting_fits progress.waiting ≡ true)
-        × (progress.at ≤ length piece.now) × NoneSpent progress.depth cells.old places.old store.old }
+        × (progress.at ≤ length piece.now) × NoneSpent progress.depth cursors.old store.old }
     ensures left { (d : Drawing) (out : List ℕ)
-        → left_of budget progress result cells.new places.new firsts.new d store.new out
+        → left_of budget progress result cursors.new firsts.new d store.new out
         ≡ leaves
         (turn (ltb free room_for_step) (budget - progress.steps)
-        (state_at budget progress cells.old places.old firsts.old d store.old)
+        (state_at budget progress cursors.old firsts.old d store.old)
         (drop progress.at piece.now))
         progress.at progress.written out }
     ensures due { DrawDue progress result }
@@ -86,14 +84,12 @@ pub fn turn(
     if budget <= progress.steps {
         return ends(progress, Answer::Refused(Refusal::BudgetUsed));
     }
-    match next_byte(store, cells, places, depth, piece, at) {
-        Read::BadCell => ends(progress, Answer::Refused(Refusal::OutOfRange)),
-        Read::Byte(byte, cursor) => {
-            let next = Onward {
-                at: place_after(depth, at),
-                cursor,
-            };
-            interpret(progress, next, byte, cells, places, firsts, store)
-        }
-    }
+    let Some((byte, cursor)) = next_byte(store, cursors, depth, piece, at) else {
+        return ends(progress, Answer::Refused(Refusal::OutOfRange));
+    };
+    let next = Onward {
+        at: place_after(depth, at),
+        cursor,
+    };
+    interpret(progress, next, byte, cursors, firsts, store)
 }

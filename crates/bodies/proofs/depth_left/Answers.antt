@@ -1,31 +1,16 @@
-use Rattle.bodies.specs.Prelude.{refl, ◌∙◌, sym, arith}
+use Rattle.std.specs.Prelude.{◌≡◌, ◌-◌, ◌+◌}
+use Rattle.bodies.specs.Prelude.{◌∙◌, sym, arith}
 use Rattle.bodies.proofs.StackLaws.{left_none, left_here, left_below}
 use Rattle.bodies.proofs.depth_left.Goals as goal
 
-pub loop-left-init : goal.loop-left-init
-loop-left-init c = (refl, omega arith)
+pub returns-then-has_left-clause-rule : goal.returns-then-has_left-clause-rule
+returns-then-has_left-clause-rule c =
+    let index : c.loop-index.index - 1 + 1 ≡ c.loop-index.index = omega arith in
+    index ∙ sym (c.loop-index.invariant ∙ left_here _ _ _ c.loop-index-test.true c.has_left.ensures c.if-has_left.true)
 
-pub overflow_sub-left : goal.overflow_sub-left
-overflow_sub-left c = omega arith
+pub loop-index-preserved : goal.loop-index-preserved
+loop-index-preserved c =
+    c.loop-index.invariant ∙ left_below _ _ _ c.loop-index-test.true c.has_left.ensures c.if-has_left.false
 
-pub body_at-requires : goal.body_at-requires
-body_at-requires c = omega arith
-
-pub has_left-requires : goal.has_left-requires
-has_left-requires c = omega arith
-
-pub returns-then-has_left : goal.returns-then-has_left
-returns-then-has_left c = record { rule = sym (c.loop-left.invariant.0 ∙ left_here _ _ _ c.loop-left-test.true (c.body_at.ensures.rule 0) c.has_left.ensures c.if-has_left.true); most = omega arith }
-
-pub overflow_sub-left-in-loop-left : goal.overflow_sub-left-in-loop-left
-overflow_sub-left-in-loop-left c = omega arith
-
-pub loop-left-smaller : goal.loop-left-smaller
-loop-left-smaller c = omega arith
-
-pub loop-left-preserved : goal.loop-left-preserved
-loop-left-preserved c =
-    (c.loop-left.invariant.0 ∙ left_below _ _ _ c.loop-left-test.true (c.body_at.ensures.rule 0) c.has_left.ensures c.if-has_left.false, omega arith)
-
-pub returns : goal.returns
-returns c = record { rule = sym (c.loop-left.invariant.0 ∙ left_none _ _ _ c.loop-left-test.false); most = omega arith }
+pub returns-clause-rule : goal.returns-clause-rule
+returns-clause-rule c = sym (c.loop-index.invariant ∙ left_none _ _ _ c.loop-index-test.false)

@@ -1,9 +1,11 @@
-use Rattle.std.specs.Prelude.{◌+◌, ◌-◌}
+use Rattle.std.specs.Prelude.{◌+◌}
 use Rattle.command_runs.proofs.Prelude.{arith, refl, sym, ap, ◌∙◌}
 use Rattle.rules.specs.declared.Command.{Command}
 use Rattle.rules.specs.Drawing.{row_of}
 use Rattle.figures.specs.Tracing.{Inks, pen_at}
-use Rattle.command_runs.proofs.CommandLaws.{stands_none, stands_moved, stands_on, stands_opened, reaches_none, reaches_opened, reaches_dropped, reaches_end, row_next}
+use Rattle.command_runs.proofs.CommandLaws.{stands_none, stands_moved, stands_on, stands_opened, reaches_opened, reaches_dropped, reaches_end, row_next}
+use Rattle.drawing_runs.specs.Run.{none}
+use Rattle.drawing_runs.proofs.RunLaws.{rest_length}
 use Rattle.rules.proofs.DrawingRanges.{multi_range}
 use Rattle.command_runs.proofs.PointLaws.{reaches_point}
 use Rattle.command_runs.proofs.run_commands.Goals as goal
@@ -13,21 +15,16 @@ loop-place-init c =
     record {
       own = c.row_of-row.ensures;
       due = c.role_due-role.ensures;
-      begun = omega arith;
-      within = c.requires.2;
+      within = omega arith;
       long = refl;
-      room = c.requires.4;
-      stands = λ o t. stands_none (pen_at c.args.point t o) (c.args.from - c.args.from);
-      runs = λ o z eight t l m k h e. reaches_none _ _ _ _ l m _ _;
+      room = c.requires.2;
+      stands = λ o t. stands_none (pen_at c.args.point t o) 0;
+      runs = λ o z eight t l m k h e. none;
     }
 
 pub overflow_sub-out : goal.overflow_sub-out
 overflow_sub-out c =
     c.loop-place.invariant.room
-
-pub overflow_sub-place : goal.overflow_sub-place
-overflow_sub-place c =
-    c.loop-place.invariant.begun
 
 pub shape_of-out-then-out-at-lt-ROOM_FOR_STEP : goal.shape_of-out-then-out-at-lt-ROOM_FOR_STEP
 shape_of-out-then-out-at-lt-ROOM_FOR_STEP c =
@@ -35,15 +32,7 @@ shape_of-out-then-out-at-lt-ROOM_FOR_STEP c =
 
 pub returns-then-out-at-lt-ROOM_FOR_STEP : goal.returns-then-out-at-lt-ROOM_FOR_STEP
 returns-then-out-at-lt-ROOM_FOR_STEP c = let k : Inks _ _ c.args.look = record { head = c.head_of-ink.ensures; size = refl } in
-    let both = reaches_end _ _ _ _ _ _ _ _ _ _ _ c.args.look _ _ _ c.loop-place.invariant.begun c.loop-place.invariant.within c.after.ensures (λ o z eight t m. c.loop-place.invariant.runs o z eight t c.args.look m k refl refl) in record { ran = both.0; most = both.1 }
-
-pub bounds-bytes-place : goal.bounds-bytes-place
-bounds-bytes-place c =
-    omega (arith, c.loop-place-test.true, c.requires.3)
-
-pub overflow_sub-place-then-not-opens : goal.overflow_sub-place-then-not-opens
-overflow_sub-place-then-not-opens c =
-    c.loop-place.invariant.begun
+    let both = reaches_end _ _ _ _ _ _ _ _ _ c.args.look _ _ _ c.loop-place.invariant.within c.after.ensures (λ o z eight t m. c.loop-place.invariant.runs o z eight t c.args.look m k refl refl) in record { ran = both.0; most = both.1 }
 
 pub shape_of-out-then-not-opens : goal.shape_of-out-then-not-opens
 shape_of-out-then-not-opens c =
@@ -51,7 +40,7 @@ shape_of-out-then-not-opens c =
 
 pub returns-then-not-opens : goal.returns-then-not-opens
 returns-then-not-opens c = let k : Inks _ _ c.args.look = record { head = c.head_of-ink.ensures; size = refl } in
-    let both = reaches_end _ _ _ _ _ _ _ _ _ _ _ c.args.look _ _ _ c.loop-place.invariant.begun c.loop-place.invariant.within c.after-then-not-opens.ensures (λ o z eight t m. c.loop-place.invariant.runs o z eight t c.args.look m k refl refl) in record { ran = both.0; most = both.1 }
+    let both = reaches_end _ _ _ _ _ _ _ _ _ c.args.look _ _ _ c.loop-place.invariant.within c.after-then-not-opens.ensures (λ o z eight t m. c.loop-place.invariant.runs o z eight t c.args.look m k refl refl) in record { ran = both.0; most = both.1 }
 
 pub bounds-rows-row_place : goal.bounds-rows-row_place
 bounds-rows-row_place c =
@@ -62,18 +51,6 @@ open_next-opened-requires c =
     let w = c.opens.ensures c.if-not-opens.false in
     (c.loop-place.invariant.own, rw (← c.loop-place.invariant.due) w.0, omega (arith, c.if-out-at-lt-ROOM_FOR_STEP.false, c.loop-place.invariant.room), row_next c.rows-rows.ensures c.row_place.result _ _ c.row_place.ensures c.if-byte-lt64.true)
 
-pub overflow_add-place : goal.overflow_add-place
-overflow_add-place c =
-    omega (arith, c.loop-place-test.true, c.ranges.to)
-
-pub leaves_strokes-requires : goal.leaves_strokes-requires
-leaves_strokes-requires c =
-    (omega (arith, c.loop-place-test.true), c.requires.3)
-
-pub overflow_sub-place-then-leaves_strokes : goal.overflow_sub-place-then-leaves_strokes
-overflow_sub-place-then-leaves_strokes c =
-    omega (arith, c.loop-place.invariant.begun)
-
 pub shape_of-out-then-leaves_strokes : goal.shape_of-out-then-leaves_strokes
 shape_of-out-then-leaves_strokes c =
     c.open_next-opened.auto.out ∙ c.loop-place.invariant.long
@@ -81,7 +58,7 @@ shape_of-out-then-leaves_strokes c =
 pub returns-then-leaves_strokes : goal.returns-then-leaves_strokes
 returns-then-leaves_strokes c = let k : Inks _ _ c.args.look = record { head = c.head_of-ink.ensures; size = refl } in
     let w = c.opens.ensures c.if-not-opens.false in
-    let both = reaches_end _ _ _ _ _ _ _ _ _ _ _ c.args.look _ _ _ (omega (arith, c.loop-place.invariant.begun)) (omega (arith, c.loop-place-test.true)) c.after-then-leaves_strokes.ensures (λ o z eight t m. reaches_opened _ _ _ (pen_at c.args.point t o) _ _ _ _ _ _ c.args.look m _ _ _ _ _ _ c.loop-place.invariant.begun z c.open_next-opened.ensures.1 (c.loop-place.invariant.stands o t) (omega (arith, c.if-out-at-lt-ROOM_FOR_STEP.false, c.loop-place.invariant.room)) w.1 (λ u a y. c.open_next-opened.ensures.0 c.args.look u a m k y) _ c.either-moved.ensures (c.loop-place.invariant.runs o z eight t c.args.look m k refl refl)) in record { ran = both.0; most = both.1 }
+    let both = reaches_end _ _ _ _ _ _ _ _ _ c.args.look _ _ _ (omega (arith, c.loop-place-test.true)) c.after-then-leaves_strokes.ensures (λ o z eight t m. reaches_opened _ _ (pen_at c.args.point t o) _ _ _ _ _ _ c.args.look m _ _ _ _ _ _ z c.open_next-opened.ensures.1 (c.loop-place.invariant.stands o t) (omega (arith, c.if-out-at-lt-ROOM_FOR_STEP.false, c.loop-place.invariant.room)) w.1 (λ u a y. c.open_next-opened.ensures.0 c.args.look u a m k y) _ c.either-moved.ensures (c.loop-place.invariant.runs o z eight t c.args.look m k refl refl)) in record { ran = both.0; most = both.1 }
 
 pub loop-place-smaller-then-byte-lt64 : goal.loop-place-smaller-then-byte-lt64
 loop-place-smaller-then-byte-lt64 c =
@@ -93,25 +70,12 @@ loop-place-preserved-then-byte-lt64 c =
     record {
       own = c.open_next-opened.ensures.2;
       due = c.role_due-role-then-byte-lt64.ensures;
-      begun = omega (arith, c.loop-place.invariant.begun);
       within = omega (arith, c.loop-place-test.true);
       long = c.open_next-opened.auto.out ∙ c.loop-place.invariant.long;
       room = omega (arith, c.if-out-at-lt-ROOM_FOR_STEP.false, c.loop-place.invariant.room, c.open_next-opened.ensures.3, c.open_next-opened.auto.out);
-      stands = λ o t. stands_opened (pen_at c.args.point t o) (c.loop-place.place - c.args.from) (c.loop-place.place + 1 - c.args.from) c.loop-place.moved c.open_next-opened.result.moved c.loop-place.point c.open_next-opened.result.point _ (omega (arith, c.loop-place.invariant.begun)) c.open_next-opened.ensures.1 (c.loop-place.invariant.stands o t) c.either-moved.ensures;
-      runs = λ o z eight t l m k h e. reaches_opened _ _ _ (pen_at c.args.point t o) _ _ _ _ _ _ l m _ _ _ _ _ _ c.loop-place.invariant.begun z c.open_next-opened.ensures.1 (c.loop-place.invariant.stands o t) (omega (arith, c.if-out-at-lt-ROOM_FOR_STEP.false, c.loop-place.invariant.room)) w.1 (λ u a y. c.open_next-opened.ensures.0 l u a m k y) _ c.either-moved.ensures (c.loop-place.invariant.runs o z eight t l m k h e);
+      stands = λ o t. stands_opened (pen_at c.args.point t o) c.loop-place.place (c.loop-place.place + 1) c.loop-place.moved c.open_next-opened.result.moved c.loop-place.point c.open_next-opened.result.point _ (omega arith) c.open_next-opened.ensures.1 (c.loop-place.invariant.stands o t) c.either-moved.ensures;
+      runs = λ o z eight t l m k h e. reaches_opened _ _ (pen_at c.args.point t o) _ _ _ _ _ _ l m _ _ _ _ _ _ z c.open_next-opened.ensures.1 (c.loop-place.invariant.stands o t) (omega (arith, c.if-out-at-lt-ROOM_FOR_STEP.false, c.loop-place.invariant.room)) w.1 (λ u a y. c.open_next-opened.ensures.0 l u a m k y) _ c.either-moved.ensures (c.loop-place.invariant.runs o z eight t l m k h e);
     }
-
-pub point_due-whole-requires : goal.point_due-whole-requires
-point_due-whole-requires c =
-    ((multi_range c.args.look.domain c.requires.0).1, c.loop-place.invariant.within, c.requires.3)
-
-pub overflow_sub-place-in-Cut : goal.overflow_sub-place-in-Cut
-overflow_sub-place-in-Cut c =
-    c.loop-place.invariant.begun
-
-pub overflow_sub-place-then-not-drops : goal.overflow_sub-place-then-not-drops
-overflow_sub-place-then-not-drops c =
-    c.loop-place.invariant.begun
 
 pub shape_of-out-then-not-drops : goal.shape_of-out-then-not-drops
 shape_of-out-then-not-drops c =
@@ -119,66 +83,54 @@ shape_of-out-then-not-drops c =
 
 pub returns-then-not-drops : goal.returns-then-not-drops
 returns-then-not-drops c = let k : Inks _ _ c.args.look = record { head = c.head_of-ink.ensures; size = refl } in
-    let both = reaches_end _ _ _ _ _ _ _ _ _ _ _ c.args.look _ _ _ c.loop-place.invariant.begun c.loop-place.invariant.within c.after-then-not-drops.ensures (λ o z eight t m. c.loop-place.invariant.runs o z eight t c.args.look m k refl refl) in record { ran = both.0; most = both.1 }
+    let both = reaches_end _ _ _ _ _ _ _ _ _ c.args.look _ _ _ c.loop-place.invariant.within c.after-then-not-drops.ensures (λ o z eight t m. c.loop-place.invariant.runs o z eight t c.args.look m k refl refl) in record { ran = both.0; most = both.1 }
 
-pub overflow_add-place-in-Cut : goal.overflow_add-place-in-Cut
-overflow_add-place-in-Cut c =
-    omega (arith, c.loop-place-test.true, c.ranges.to)
-
-pub loop-place-smaller-in-Cut : goal.loop-place-smaller-in-Cut
-loop-place-smaller-in-Cut c =
+pub loop-place-smaller-in-None : goal.loop-place-smaller-in-None
+loop-place-smaller-in-None c =
     omega (arith, c.loop-place-test.true)
 
-pub loop-place-preserved-in-Cut : goal.loop-place-preserved-in-Cut
-loop-place-preserved-in-Cut c =
+pub loop-place-preserved-in-None : goal.loop-place-preserved-in-None
+loop-place-preserved-in-None c =
     let w = c.drops.ensures c.if-not-drops.false in
     record {
       own = c.loop-place.invariant.own;
       due = c.loop-place.invariant.due;
-      begun = omega (arith, c.loop-place.invariant.begun);
       within = omega (arith, c.loop-place-test.true);
       long = c.loop-place.invariant.long;
       room = c.loop-place.invariant.room;
-      stands = λ o t. stands_on (pen_at c.args.point t o) (c.loop-place.place - c.args.from) (c.loop-place.place + 1 - c.args.from) c.loop-place.moved c.loop-place.point (omega (arith, c.loop-place.invariant.begun)) (c.loop-place.invariant.stands o t);
-      runs = λ o z eight t l m k h e. reaches_dropped _ _ _ (pen_at c.args.point t o) _ _ _ _ l m _ _ _ w.2 (omega (arith, c.if-out-at-lt-ROOM_FOR_STEP.false, c.loop-place.invariant.room)) (omega (arith, c.if-byte-lt64.false)) w.1 c.loop-place.invariant.own (sym c.loop-place.invariant.due ∙ w.0) (c.loop-place.invariant.runs o z eight t l m k h e);
+      stands = λ o t. stands_on (pen_at c.args.point t o) c.loop-place.place (c.loop-place.place + 1) c.loop-place.moved c.loop-place.point (omega arith) (c.loop-place.invariant.stands o t);
+      runs = λ o z eight t l m k h e. reaches_dropped _ _ (pen_at c.args.point t o) _ _ _ _ l m _ _ _ w.2 (omega (arith, c.if-out-at-lt-ROOM_FOR_STEP.false, c.loop-place.invariant.room)) (omega (arith, c.if-byte-lt64.false)) w.1 c.loop-place.invariant.own (sym c.loop-place.invariant.due ∙ w.0) (c.loop-place.invariant.runs o z eight t l m k h e);
     }
+
+pub point_due-whole-requires : goal.point_due-whole-requires
+point_due-whole-requires c = (multi_range c.args.look.domain c.requires.0).1
 
 pub trace-traced-requires : goal.trace-traced-requires
 trace-traced-requires c =
-    (c.point_due-whole.ensures _ c.in-Whole.is).0
+    (c.point_due-whole.ensures _ c.in-Some.is).0
 
 pub put_figure-at-requires : goal.put_figure-at-requires
 put_figure-at-requires c =
     omega (arith, c.if-out-at-lt-ROOM_FOR_STEP.false, c.loop-place.invariant.room)
 
-pub overflow_add-place-in-Whole : goal.overflow_add-place-in-Whole
-overflow_add-place-in-Whole c =
-    let w = c.point_due-whole.ensures _ c.in-Whole.is in
-    omega (arith, w.1, c.ranges.to)
-
 pub loop-place-smaller : goal.loop-place-smaller
 loop-place-smaller c =
-    let w = c.point_due-whole.ensures _ c.in-Whole.is in
+    let w = c.point_due-whole.ensures _ c.in-Some.is in
     omega (arith, w.1, (multi_range c.args.look.domain c.requires.0).0)
 
 pub loop-place-preserved : goal.loop-place-preserved
 loop-place-preserved c =
     let r = multi_range c.args.look.domain c.requires.0 in
-    let w = c.point_due-whole.ensures _ c.in-Whole.is in
+    let w = c.point_due-whole.ensures _ c.in-Some.is in
     record {
       own = c.loop-place.invariant.own ∙ ap row_of (sym (ap (λ (x : Command). x.opcode) c.with_due-command.ensures ∙ c.trace-traced.ensures.opcode));
-      due = c.role_due-role-in-Whole.ensures;
-      begun = omega (arith, c.loop-place.invariant.begun);
-      within = w.1;
+      due = c.role_due-role-in-Some.ensures;
+      within = omega (arith, w.1, rest_length c.args.bytes.now c.loop-place.place);
       long = c.put_figure-at.auto.out ∙ c.loop-place.invariant.long;
       room = omega (arith, c.if-out-at-lt-ROOM_FOR_STEP.false, c.loop-place.invariant.room, c.put_figure-at.ensures.most, c.put_figure-at.auto.out);
-      stands = λ o t. stands_moved (pen_at c.args.point t o) (c.loop-place.place + c.args.look.domain.multi - c.args.from) c.trace-traced.result.point (omega (arith, c.loop-place.invariant.begun, r.0));
-      runs = λ o z eight t l m k h e. reaches_point _ _ _ (pen_at c.args.point t o) _ _ _ _ l m _ _ _ _ _ _ _ _ _ _ _ _ _ c.loop-place.invariant.begun z eight (c.loop-place.invariant.stands o t) c.loop-place.invariant.own c.loop-place.invariant.due w.0 (omega (arith, c.if-out-at-lt-ROOM_FOR_STEP.false, c.loop-place.invariant.room)) h r.0 r.1 (omega (arith, w.1, c.requires.3)) e w.2 (λ bs u a f. c.trace-traced.ensures.drawn l _ bs c.target-aimed.ensures.0 c.target-aimed.ensures.1 f u a m) (c.put_figure-at.ensures.put l k) c.with_due-command.ensures (c.loop-place.invariant.runs o z eight t l m k h e);
+      stands = λ o t. stands_moved (pen_at c.args.point t o) (c.loop-place.place + c.args.look.domain.multi) c.trace-traced.result.point (omega (arith, r.0));
+      runs = λ o z eight t l m k h e. reaches_point _ _ (pen_at c.args.point t o) _ _ _ _ l m _ _ _ _ _ _ _ _ _ _ _ _ _ z eight (c.loop-place.invariant.stands o t) c.loop-place.invariant.own c.loop-place.invariant.due w.0 (omega (arith, c.if-out-at-lt-ROOM_FOR_STEP.false, c.loop-place.invariant.room)) h r.0 r.1 w.1 e w.2 (λ bs u a f. c.trace-traced.ensures.drawn l _ bs c.target-aimed.ensures.0 c.target-aimed.ensures.1 f u a m) (c.put_figure-at.ensures.put l k) c.with_due-command.ensures (c.loop-place.invariant.runs o z eight t l m k h e);
     }
-
-pub overflow_sub-place-2 : goal.overflow_sub-place-2
-overflow_sub-place-2 c =
-    c.loop-place.invariant.begun
 
 pub shape_of-out : goal.shape_of-out
 shape_of-out c =
@@ -186,4 +138,4 @@ shape_of-out c =
 
 pub returns : goal.returns
 returns c = let k : Inks _ _ c.args.look = record { head = c.head_of-ink.ensures; size = refl } in
-    let both = reaches_end _ _ _ _ _ _ _ _ _ _ _ c.args.look _ _ _ c.loop-place.invariant.begun c.loop-place.invariant.within c.after-2.ensures (λ o z eight t m. c.loop-place.invariant.runs o z eight t c.args.look m k refl refl) in record { ran = both.0; most = both.1 }
+    let both = reaches_end _ _ _ _ _ _ _ _ _ c.args.look _ _ _ c.loop-place.invariant.within c.after-2.ensures (λ o z eight t m. c.loop-place.invariant.runs o z eight t c.args.look m k refl refl) in record { ran = both.0; most = both.1 }

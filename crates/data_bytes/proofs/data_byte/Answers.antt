@@ -1,27 +1,27 @@
-use Rattle.data_bytes.proofs.Prelude.{arith, ◌∙◌}
-use Rattle.data_bytes.proofs.OperandLaws.{data_loose, data_joined, last_refused, last_drawn}
+use Rattle.std.proofs.Common.{sym, ap, ◌∙◌}
+use Rattle.rules.specs.Drawing.{Outcome}
+use Rattle.figures.specs.Carried.{carry}
+use Rattle.figures.proofs.Carrying.{none_carried}
+use Rattle.data_bytes.proofs.OperandLaws.{data_loose, data_joined, data_last, last_refused, last_drawn}
 use Rattle.data_bytes.proofs.data_byte.Goals as goal
-
-pub loose_byte-requires : goal.loose_byte-requires
-loose_byte-requires c =
-    (c.role_due-role.ensures, c.requires.2, c.requires.3)
 
 pub returns-then-bytes_due-eq0 : goal.returns-then-bytes_due-eq0
 returns-then-bytes_due-eq0 c =
-    c.loose_byte.ensures _ ∙ data_loose _ _ _ _ _ _ _ c.role_due-role.ensures c.length_of-bytes_due.ensures c.if-bytes_due-eq0.true
+    c.loose_byte.ensures
+    ∙ ap (λ (o : Outcome). carry o c.args.drawing.now c.args.at c.args.out.now)
+    (sym (data_loose c.args.row c.args.byte c.args.drawing.now _ _ c.role_due-role.ensures c.length_of-bytes_due.ensures c.if-bytes_due-eq0.true))
 
-pub returns-then-longer-bytes_due : goal.returns-then-longer-bytes_due
-returns-then-longer-bytes_due c =
-    c.no_record.ensures _ _ ∙ data_joined _ _ _ _ _ _ _ c.role_due-role.ensures c.length_of-bytes_due.ensures _ c.join_byte-longer.ensures c.if-bytes_due-eq0.false c.if-longer-bytes_due.true
+pub returns-then-drawing-bytes_due : goal.returns-then-drawing-bytes_due
+returns-then-drawing-bytes_due c =
+    rw c.join_byte.ensures
+    (none_carried _ _ _ _ (data_joined _ _ _ _ _ c.role_due-role.ensures c.length_of-bytes_due.ensures c.if-bytes_due-eq0.false (rw c.join_byte.ensures at c.if-drawing-bytes_due.true)))
 
-pub apply_begun-done-requires : goal.apply_begun-done-requires
-apply_begun-done-requires c =
-    (rw c.join_byte-longer.ensures c.requires.0, c.requires.1, omega (arith, c.requires.3))
+pub returns-in-Err : goal.returns-in-Err
+returns-in-Err c =
+    let last = data_last _ _ _ _ _ c.role_due-role.ensures c.length_of-bytes_due.ensures c.if-bytes_due-eq0.false (rw c.join_byte.ensures at c.if-drawing-bytes_due.false) in
+    last_refused c.args.row _ c.args.drawing.now c.apply_begun-drawn.new.drawing _ _ _ _ c.in-Err.field-0 c.in-Err.is (rw c.join_byte.ensures at (c.in-Err.ensures {u = tt})) last
 
-pub returns-then-done : goal.returns-then-done
-returns-then-done c =
-    last_refused _ _ _ _ _ _ _ c.role_due-role.ensures c.length_of-bytes_due.ensures _ c.join_byte-longer.ensures c.if-bytes_due-eq0.false _ c.if-longer-bytes_due.false c.apply_begun-done.ensures c.if-done.true
-
-pub returns : goal.returns
-returns c =
-    last_drawn _ _ _ _ _ _ _ c.role_due-role.ensures c.length_of-bytes_due.ensures _ c.join_byte-longer.ensures c.if-bytes_due-eq0.false _ c.if-longer-bytes_due.false c.apply_begun-done.ensures c.if-done.false
+pub returns-in_default : goal.returns-in_default
+returns-in_default c =
+    let last = data_last _ _ _ _ _ c.role_due-role.ensures c.length_of-bytes_due.ensures c.if-bytes_due-eq0.false (rw c.join_byte.ensures at c.if-drawing-bytes_due.false) in
+    last_drawn c.args.row _ c.args.drawing.now _ _ _ _ _ c.in_default.field-0 c.in_default.is (rw c.join_byte.ensures at (c.in_default.ensures {u = tt})) last

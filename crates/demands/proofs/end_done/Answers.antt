@@ -11,10 +11,8 @@ returns-in-Done c =
 
 pub returns-in-Full : goal.returns-in-Full
 unfolding end_after
-returns-in-Full c =
-    end_told (handed_of c.args.before c.args.store.now c.args.out.now) c.in-Full.is
+returns-in-Full c = end_told (handed_of c.args.before c.args.store.now c.args.out.now) c.in-Full.is
 
 pub returns-in-Refused : goal.returns-in-Refused
 unfolding end_after
-returns-in-Refused c =
-    end_told (handed_of c.args.before c.args.store.now c.args.out.now) c.in-Refused.is
+returns-in-Refused c = end_told (handed_of c.args.before c.args.store.now c.args.out.now) c.in-Refused.is

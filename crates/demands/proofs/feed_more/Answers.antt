@@ -1,10 +1,6 @@
-use Rattle.demands.specs.Prelude.{sym, arith, length-take-le}
+use Rattle.demands.specs.Prelude.{arith}
 use Rattle.demands.proofs.CutLaws.{fed_counts, fed_more_lem}
 use Rattle.demands.proofs.feed_more.Goals as goal
-
-pub slice_bounds-feed_from-end : goal.slice_bounds-feed_from-end
-slice_bounds-feed_from-end c =
-    sym (length-take-le c.args.lent c.args.page.now c.requires.consumed_le_lent.1)
 
 pub overflow_add-result : goal.overflow_add-result
 overflow_add-result c =

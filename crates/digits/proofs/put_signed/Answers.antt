@@ -1,4 +1,4 @@
-use Rattle.std.specs.Prelude.{◌≡◌, ◌+◌, ◌-◌}
+use Rattle.std.specs.Prelude.{◌≡◌, ◌-◌}
 use Rattle.digits.specs.Prelude.{arith, lt-ltb, le-ltb}
 use Rattle.digits.proofs.Places.{joined}
 use Rattle.digits.proofs.Decimals.{one_digit}
@@ -16,5 +16,5 @@ returns-then-pattern-lt2147483648 c = record { put = rw (lt-ltb _ _ c.if-pattern
 
 pub returns : goal.returns
 unfolding signed_decimal
-returns c = let same : 4294967295 - c.args.pattern + 1 ≡ 4294967296 - c.args.pattern = omega arith in
+returns c = let same : c.wrapping_neg.result ≡ 4294967296 - c.args.pattern = omega (arith, c.wrapping_neg.ensures) in
     record { put = rw (le-ltb _ _ c.if-pattern-lt2147483648.false, ← same) (joined (omega arith) c.put_byte-to.ensures c.put_number-2.ensures.put); upper_bound = omega (arith, c.put_byte-to.ensures.end) }

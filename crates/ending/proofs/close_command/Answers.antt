@@ -3,12 +3,11 @@ use Rattle.drawing.proofs.Refusals.{act_vertices}
 use Rattle.ending.proofs.EndLaws.{stopped_so, ended_so}
 use Rattle.ending.proofs.close_command.Goals as goal
 
-pub returns-then-drawn : goal.returns-then-drawn
-returns-then-drawn c = λ st.
-    let s = c.args.session in
-    stopped_so _ s st _ _ _ c.act-drawn.result _ (act_vertices Close s.drawing) c.act-drawn.ensures c.if-drawn.true c.stop.ensures
+pub returns-in-Ok : goal.returns-in-Ok
+returns-in-Ok c = λ st.
+    ended_so _ c.args.session _ _ st _ _ c.in-Ok.ensures
 
-pub returns : goal.returns
-returns c = λ st.
+pub returns-in-Err : goal.returns-in-Err
+returns-in-Err c = λ st.
     let s = c.args.session in
-    ended_so _ s st _ _ _ c.act-drawn.result _ c.act-drawn.ensures c.if-drawn.false c.with_parts-session.ensures
+    stopped_so _ s _ st _ _ _ (act_vertices Close s.drawing) c.in-Err.ensures (rw c.from.ensures at c.stop.ensures)

@@ -1,4 +1,4 @@
-use Rattle.ending.specs.Prelude.{sym, ◌∙◌}
+use Rattle.std.proofs.Common.{sym, ◌∙◌}
 use Rattle.rules.proofs.Steps.{valid_store, valid_depth}
 use Rattle.ending.proofs.EndLaws.{left_answer, inside_answer, none_answer, full_answer, close_answer}
 use Rattle.ending.proofs.end_running.Goals as goal
@@ -15,17 +15,13 @@ pub returns-then-unfinished : goal.returns-then-unfinished
 returns-then-unfinished c =
     inside_answer c.args.session _ _ _ (c.requires) (sym c.bytes_left.ensures ∙ c.if-bytes_left.false) (sym c.unfinished.ensures ∙ c.if-unfinished.true) c.stop.ensures
 
-pub returns-then-command-eq0 : goal.returns-then-command-eq0
-returns-then-command-eq0 c =
-    none_answer c.args.session _ _ _ (c.requires) (sym c.bytes_left.ensures ∙ c.if-bytes_left.false) (sym c.unfinished.ensures ∙ c.if-unfinished.false) c.if-command-eq0.true c.close_none.ensures
+pub returns-then-session-eq0 : goal.returns-then-session-eq0
+returns-then-session-eq0 c =
+    none_answer c.args.session _ _ _ (c.requires) (sym c.bytes_left.ensures ∙ c.if-bytes_left.false) (sym c.unfinished.ensures ∙ c.if-unfinished.false) c.if-session-eq0.true c.close_none.ensures
 
 pub returns-then-out-lt-ROOM_FOR_STEP : goal.returns-then-out-lt-ROOM_FOR_STEP
 returns-then-out-lt-ROOM_FOR_STEP c =
-    full_answer c.args.session _ _ _ (c.requires) (sym c.bytes_left.ensures ∙ c.if-bytes_left.false) (sym c.unfinished.ensures ∙ c.if-unfinished.false) c.if-command-eq0.false c.if-out-lt-ROOM_FOR_STEP.true c.rest-then-out-lt-ROOM_FOR_STEP.ensures
-
-pub close_command-requires : goal.close_command-requires
-close_command-requires c =
-    (c.requires.drawing, c.if-out-lt-ROOM_FOR_STEP.false)
+    full_answer c.args.session _ _ _ (c.requires) (sym c.bytes_left.ensures ∙ c.if-bytes_left.false) (sym c.unfinished.ensures ∙ c.if-unfinished.false) c.if-session-eq0.false c.if-out-lt-ROOM_FOR_STEP.true c.rest-then-out-lt-ROOM_FOR_STEP.ensures
 
 pub returns : goal.returns
 returns c =

@@ -1,4 +1,4 @@
-use Rattle.std.specs.Prelude.{◌≡◌, ◌≤◌, ◌-◌}
+use Rattle.std.specs.Prelude.{◌≡◌, ◌-◌}
 use Rattle.line_runs.specs.Prelude.{length}
 use Rattle.rules.specs.declared.Text.{Text}
 use Rattle.line_runs.proofs.CharacterLaws.{LineFrom, OnLine}
@@ -6,8 +6,5 @@ use Rattle.line_runs.proofs.put_line.Given as goal
 
 abbrev pub invariant-loop-n : goal.invariant-loop-n
 invariant-loop-n l =
-    (l.count ≤ l.n) × (l.n ≤ l.end) × (length l.out ≡ length l.initial.out)
-    × ((t : Text) → LineFrom t l.field l.initial.cursor (l.end - l.count) l.step → OnLine l.common l.bytes l.from l.at t l.step l.initial.cursor l.count l.initial.out l.n l.cursor l.out)
-
-abbrev pub decreases-loop-n : goal.decreases-loop-n
-decreases-loop-n l = l.end - l.n
+    (length l.out ≡ length l.initial.out)
+    × ((t : Text) → LineFrom t l.text.field l.initial.cursor (l.end - l.count) l.step → OnLine l.common l.bytes 0 l.at t l.step l.initial.cursor l.count l.initial.out l.n l.cursor l.out)

@@ -8,7 +8,7 @@ pub returns : goal.returns
 unfolding closing
 returns c = let begun = joined (omega arith) c.put-word.ensures c.put_number-first.ensures.put in
     let second = joined (omega arith) (joined (omega arith) begun c.put-second.ensures) c.put_number-end.ensures.put in record {
-      put = rw (← c.wide.ensures.0) (joined (omega arith) second c.put.ensures);
+      put = rw (← c.from.ensures) (joined (omega arith) second c.put.ensures);
       prefix_len = counts _ _ (omega (
         arith,
         c.requires,

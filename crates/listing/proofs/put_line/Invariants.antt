@@ -1,6 +1,6 @@
 use Rattle.digits.specs.Decimal.{Put}
 use Rattle.listing.specs.Text.{fields_to}
-use Rattle.std.specs.Prelude.{◌≡◌, ◌+◌, ◌*◌, ◌-◌, ◌≤◌}
+use Rattle.std.specs.Prelude.{◌≡◌, ◌+◌, ◌*◌, ◌≤◌}
 use Rattle.listing.specs.Prelude.{List, ℕ, length}
 use Rattle.listing.proofs.put_line.Given as goal
 
@@ -8,7 +8,4 @@ use Rattle.listing.proofs.put_line.Given as goal
 abbrev pub invariant-loop-i : goal.invariant-loop-i
 invariant-loop-i m =
     ((l : List ℕ) → m.at ≤ length l → Put m.at (fields_to m.bytes 8) l m.initial.text m.initial.to → Put m.at (fields_to m.bytes m.i) l m.text m.to)
-    × ((8 ≤ m.i) × ((m.i ≤ 16) × ((m.to + 64 ≤ m.at + 12 * m.i) × (length m.text ≡ length m.initial.text))))
-
-abbrev pub decreases-loop-i : goal.decreases-loop-i
-decreases-loop-i l = 16 - l.i
+    × (m.to + 64 ≤ m.at + 12 * m.i) × (length m.text ≡ length m.initial.text)

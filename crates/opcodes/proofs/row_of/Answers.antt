@@ -1,8 +1,8 @@
 use Rattle.std.specs.Prelude.{◌-◌}
-use Rattle.opcodes.proofs.Prelude.{◌∙◌}
+use Rattle.std.proofs.Common.{◌∙◌}
 use Rattle.rules.specs.Drawing.{rows, other}
 use Rattle.rules.proofs.OpcodeRows.{row_at}
-use Rattle.rules.proofs.Tables.{at, before, past}
+use Rattle.rules.proofs.Tables.{at, past}
 use Rattle.std.proofs.Common.{rules}
 use Rattle.opcodes.proofs.row_of.Goals as goal
 
@@ -11,10 +11,6 @@ unfolding rows
 returns-in-32-to-63 c =
     let opcode = c.args.opcode in
     at rows c.rows.ensures (opcode - 32) _ other (search rules) ∙ row_at opcode
-
-pub returns-in_default : goal.returns-in_default
-unfolding rows
-returns-in_default c = before rows other c.args.opcode 32 (search rules) ∙ row_at c.args.opcode
 
 pub returns-in_default-2 : goal.returns-in_default-2
 unfolding rows

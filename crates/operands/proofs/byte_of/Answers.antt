@@ -3,12 +3,12 @@ use Rattle.rules.specs.Operands.{begun}
 use Rattle.rules.proofs.Lists.{take_past}
 use Rattle.operands.proofs.byte_of.Goals as goal
 
-pub returns-then-n-i : goal.returns-then-n-i
+pub returns-then-i-o : goal.returns-then-i-o
 unfolding begun
-returns-then-n-i c =
-    sym (take_past c.args.o.count c.args.i c.args.o.bytes 0 c.if-n-i.true)
+returns-then-i-o c =
+    sym (get_or-take c.args.o.count c.args.o.bytes c.args.i 0 c.if-i-o.true)
 
-pub returns : goal.returns
+pub returns-else-i-o : goal.returns-else-i-o
 unfolding begun
-returns c =
-    sym (get_or-take c.args.o.count c.args.o.bytes c.args.i 0 c.if-n-i.false)
+returns-else-i-o c =
+    sym (take_past c.args.o.count c.args.i c.args.o.bytes 0 c.if-i-o.false)

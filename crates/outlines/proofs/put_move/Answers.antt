@@ -1,10 +1,11 @@
-use Rattle.outlines.specs.Prelude.{ℕ, List, ap, ◌∙◌, le_refl, le-add_right}
+use Rattle.std.proofs.Common.{ℕ, List, ap, ◌∙◌}
 use Rattle.records.specs.Bytes.{overwrite}
-use Rattle.outlines.proofs.TrailLaws.{put_drawn, put_undrawn}
+use Rattle.figures.proofs.Carrying.{puts_none, puts_one}
 use Rattle.outlines.proofs.put_move.Goals as goal
 
-pub returns-then-drawn : goal.returns-then-drawn
-returns-then-drawn c = record { put = λ x e. put_drawn x _ _ _ _ c.if-drawn.true (c.put_words.ensures ∙ ap (λ (bs : List ℕ). overwrite c.args.at bs c.args.out.now) e); most = le_refl _ }
+pub returns-then-drawn-clause-put : goal.returns-then-drawn-clause-put
+returns-then-drawn-clause-put c = λ x e.
+    rw c.if-drawn.true (puts_one x _ _ _ (c.put_words.ensures ∙ ap (λ (bs : List ℕ). overwrite c.args.at bs c.args.out.now) e))
 
-pub returns : goal.returns
-returns c = record { put = λ x e. put_undrawn x _ _ _ c.if-drawn.false; most = le-add_right _ 40 }
+pub returns-clause-put : goal.returns-clause-put
+returns-clause-put c = λ x e. rw c.if-drawn.false (puts_none _ _)

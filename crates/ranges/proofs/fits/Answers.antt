@@ -1,15 +1,17 @@
-use Rattle.ranges.proofs.VerdictLaws.{fits_not, fits_by}
-use Rattle.ranges.specs.Prelude.{refl, sym, ◌∙◌}
+use Rattle.rules.specs.Ranges.{fits}
+use Rattle.ranges.proofs.RangeLaws.{and_first, and_second}
 use Rattle.ranges.proofs.fits.Goals as goal
 
-pub returns-then-not-bodies_fit : goal.returns-then-not-bodies_fit
-returns-then-not-bodies_fit c =
-    fits_not c.args.session (sym (c.bodies_fit.ensures c.args.session.bodies.cells) ∙ c.if-not-bodies_fit.true)
-
 pub returns-then-waiting_fits : goal.returns-then-waiting_fits
+unfolding fits
 returns-then-waiting_fits c =
-    fits_by c.args.session (sym (c.bodies_fit.ensures c.args.session.bodies.cells) ∙ c.if-not-bodies_fit.false) (sym c.if-waiting_fits.true ∙ c.waiting_fits.ensures) (c.drawing_fits.ensures c.args.session.drawing.map)
+    and_second c.bodies_fit.ensures c.if-bodies_fit.true (and_second c.waiting_fits.ensures c.if-waiting_fits.true c.drawing_fits.ensures)
 
 pub returns-else-waiting_fits : goal.returns-else-waiting_fits
+unfolding fits
 returns-else-waiting_fits c =
-    c.if-waiting_fits.false ∙ fits_by c.args.session (sym (c.bodies_fit.ensures c.args.session.bodies.cells) ∙ c.if-not-bodies_fit.false) (sym c.if-waiting_fits.false ∙ c.waiting_fits.ensures) refl
+    and_second c.bodies_fit.ensures c.if-bodies_fit.true (and_first _ c.waiting_fits.ensures c.if-waiting_fits.false)
+
+pub returns-else-bodies_fit : goal.returns-else-bodies_fit
+unfolding fits
+returns-else-bodies_fit c = and_first _ c.bodies_fit.ensures c.if-bodies_fit.false

@@ -1,21 +1,20 @@
-use Rattle.reading.proofs.Prelude.{arith, refl, sym, ap, ◌∙◌}
+use Rattle.reading.proofs.Prelude.{arith, refl}
 use Rattle.pens.specs.Tips.{pen_of}
-use Rattle.pens.specs.Words.{text_from}
 use Rattle.figures.specs.Carried.{drawing_of}
-use Rattle.progress.specs.declared.Reached.{Reached}
 use Rattle.rules.proofs.Steps.{valid_store, valid_depth}
 use Rattle.coded_turns.proofs.ProgressLaws.{walk_steps}
-use Rattle.reading.proofs.ReadLaws.{loop_first, loop_on, loop_ends, loop_draws, loop_refused, hands_over, drawn_room, stands_any, fed_text, text_refused}
+use Rattle.reading.proofs.ReadLaws.{loop_first, loop_on, loop_ends, loop_draws, loop_refused, hands_over, drawn_room, stands_any}
 use Rattle.reading.proofs.WalkLaws.{walk_keeps}
+use Rattle.reading.proofs.read.Goals.{in-Ends, in-Draws+in-Err}
 use Rattle.reading.proofs.read.Goals as goal
 
 pub loop-progress-init : goal.loop-progress-init
 loop-progress-init c =
-    loop_first c.args.session c.args.store.now c.args.piece.now c.args.out.now c.requires _ c.put_text.ensures c.start-reached.result c.start-reached.ensures
+    loop_first c.args.session c.args.store.now c.args.piece.now c.args.out.now c.requires _ refl c.start-reached.result c.start-reached.ensures
 
 pub run-reached-requires : goal.run-reached-requires
 run-reached-requires c =
-    stands_any c.args.session.budget c.loop-progress.reached c.loop-progress.words c.loop-progress.cells c.loop-progress.places c.loop-progress.firsts c.loop-progress.map c.loop-progress.store c.loop-progress.invariant.stands
+    stands_any c.args.session.budget c.loop-progress.reached c.loop-progress.text c.loop-progress.cursors c.loop-progress.firsts c.loop-progress.map c.loop-progress.store c.loop-progress.invariant.stands
 
 pub loop-progress-smaller-then-taken-progress : goal.loop-progress-smaller-then-taken-progress
 loop-progress-smaller-then-taken-progress c =
@@ -35,27 +34,14 @@ turn-turned-requires c =
     let v = k.stands.sound in
     (valid_store v, valid_depth v, v.waiting, k.stands.on, c.run-reached.ensures.spent c.if-taken-progress.false)
 
-pub shape_of-store-in-Ends : goal.shape_of-store-in-Ends
-shape_of-store-in-Ends c =
-    c.turn-turned.auto.store ∙ valid_store (walk_keeps _ _ _ (c.run-reached.ensures.walk c.loop-progress.map) c.loop-progress.invariant).stands.sound ∙ sym (valid_store c.requires)
+pub loop-progress-smaller-in-GoesOn : goal.loop-progress-smaller-in-GoesOn
+loop-progress-smaller-in-GoesOn c =
+    let on = loop_on _ _ _ _ _ _ _ (drawing_of (pen_of c.run-reached.new.text c.run-reached.result.tip) c.run-reached.result.command c.run-reached.result.look c.loop-progress.map) _ _ (walk_keeps _ _ _ (c.run-reached.ensures.walk c.loop-progress.map) c.loop-progress.invariant) c.turn-turned.result _ _ _ c.turn-turned.ensures.left c.in-GoesOn.is in
+    omega (arith, on.1, on.2, walk_steps (c.run-reached.ensures.walk c.loop-progress.map) c.loop-progress.invariant.stands)
 
-pub shape_of-out-in-Ends : goal.shape_of-out-in-Ends
-shape_of-out-in-Ends c =
-    (walk_keeps _ _ _ (c.run-reached.ensures.walk c.loop-progress.map) c.loop-progress.invariant).long
-
-pub returns-in-Ends : goal.returns-in-Ends
-returns-in-Ends c =
-    hands_over _ _ c.args.piece.now c.args.out.now c.requires _ c.put_text.ensures _ c.start-reached.ensures _ _ _ _ _ _ _ _ (loop_ends _ _ _ _ _ _ _ _ (drawing_of (pen_of (text_from c.run-reached.new.words) c.run-reached.result.tip) c.run-reached.result.command c.run-reached.result.look c.loop-progress.map) _ _ (walk_keeps _ _ _ (c.run-reached.ensures.walk c.loop-progress.map) c.loop-progress.invariant) c.turn-turned.result _ _ _ _ c.turn-turned.ensures.left _ c.in-Ends.is) _ (fed_text _ _ _ _ _ _ _ _ c.run-reached.result.tip c.run-reached.result.command c.run-reached.result.look c.loop-progress.map c.text_of-text.ensures _ c.finish.ensures)
-
-pub loop-progress-smaller : goal.loop-progress-smaller
-loop-progress-smaller c =
-    let on = loop_on _ _ _ _ _ _ _ _ (drawing_of (pen_of (text_from c.run-reached.new.words) c.run-reached.result.tip) c.run-reached.result.command c.run-reached.result.look c.loop-progress.map) _ _ (walk_keeps _ _ _ (c.run-reached.ensures.walk c.loop-progress.map) c.loop-progress.invariant) c.turn-turned.result _ _ _ _ c.turn-turned.ensures.left c.in-GoesOn.is in
-    omega (arith, on.1, on.2, walk_steps (c.run-reached.ensures.walk c.loop-progress.map) c.loop-progress.invariant.stands, ap (λ (x : Reached). x.progress.steps) c.with_progress-reached.ensures)
-
-pub loop-progress-preserved : goal.loop-progress-preserved
-loop-progress-preserved c =
-    rw c.with_progress-reached.ensures
-    (loop_on _ _ _ _ _ _ _ _ (drawing_of (pen_of (text_from c.run-reached.new.words) c.run-reached.result.tip) c.run-reached.result.command c.run-reached.result.look c.loop-progress.map) _ _ (walk_keeps _ _ _ (c.run-reached.ensures.walk c.loop-progress.map) c.loop-progress.invariant) c.turn-turned.result _ _ _ _ c.turn-turned.ensures.left c.in-GoesOn.is).0
+pub loop-progress-preserved-in-GoesOn : goal.loop-progress-preserved-in-GoesOn
+loop-progress-preserved-in-GoesOn c =
+    (loop_on _ _ _ _ _ _ _ (drawing_of (pen_of c.run-reached.new.text c.run-reached.result.tip) c.run-reached.result.command c.run-reached.result.look c.loop-progress.map) _ _ (walk_keeps _ _ _ (c.run-reached.ensures.walk c.loop-progress.map) c.loop-progress.invariant) c.turn-turned.result _ _ _ c.turn-turned.ensures.left c.in-GoesOn.is).0
 
 pub draw-drawn-requires : goal.draw-drawn-requires
 draw-drawn-requires c =
@@ -64,26 +50,22 @@ draw-drawn-requires c =
     let free = drawn_room c.turn-turned.result _ _ c.in-Draws.is c.turn-turned.ensures.room in
     (valid_depth v, v.drawing, omega (arith, free, k.stands.within))
 
-pub shape_of-store-then-drawn : goal.shape_of-store-then-drawn
-shape_of-store-then-drawn c =
-    c.turn-turned.auto.store ∙ valid_store (walk_keeps _ _ _ (c.run-reached.ensures.walk c.loop-progress.map) c.loop-progress.invariant).stands.sound ∙ sym (valid_store c.requires)
-
-pub shape_of-out-then-drawn : goal.shape_of-out-then-drawn
-shape_of-out-then-drawn c =
-    c.draw-drawn.auto.out ∙ (walk_keeps _ _ _ (c.run-reached.ensures.walk c.loop-progress.map) c.loop-progress.invariant).long
-
-pub returns-then-drawn : goal.returns-then-drawn
-returns-then-drawn c =
-    hands_over _ _ c.args.piece.now c.args.out.now c.requires _ c.put_text.ensures _ c.start-reached.ensures _ _ _ _ _ _ _ _ (loop_refused _ _ _ _ _ _ _ _ (drawing_of (pen_of (text_from c.run-reached.new.words) c.run-reached.result.tip) c.run-reached.result.command c.run-reached.result.look c.loop-progress.map) _ _ (walk_keeps _ _ _ (c.run-reached.ensures.walk c.loop-progress.map) c.loop-progress.invariant) c.turn-turned.result _ _ _ _ c.turn-turned.ensures.left
-    _ c.in-Draws.is c.turn-turned.ensures.due c.draw-drawn.result c.draw-drawn.new.map c.draw-drawn.new.out c.draw-drawn.ensures.drawn c.draw-drawn.new.cells c.draw-drawn.new.places c.draw-drawn.ensures.bodies c.if-drawn.true (pen_of (text_from c.run-reached.new.words) c.run-reached.result.tip) c.run-reached.result.command c.run-reached.result.look c.loop-progress.map refl) _ (fed_text _ _ _ _ _ _ _ _ c.run-reached.result.tip c.run-reached.result.command c.run-reached.result.look _ (c.text_of-text-then-drawn.ensures ∙ text_refused _ _ _ _ c.if-drawn.true c.draw-drawn.ensures.text) _ c.finish-then-drawn.ensures)
-
-pub loop-progress-smaller-in-Draws : goal.loop-progress-smaller-in-Draws
-loop-progress-smaller-in-Draws c =
-    let on = loop_draws _ _ _ _ _ _ _ _ (drawing_of (pen_of (text_from c.run-reached.new.words) c.run-reached.result.tip) c.run-reached.result.command c.run-reached.result.look c.loop-progress.map) _ _ (walk_keeps _ _ _ (c.run-reached.ensures.walk c.loop-progress.map) c.loop-progress.invariant) c.turn-turned.result _ _ _ _ c.turn-turned.ensures.left
-    _ c.in-Draws.is c.turn-turned.ensures.due c.draw-drawn.result c.draw-drawn.new.map c.draw-drawn.new.out c.draw-drawn.ensures.drawn c.draw-drawn.new.cells c.draw-drawn.new.places c.draw-drawn.ensures.bodies c.if-drawn.false c.after_drawing-reached.result c.after_drawing-reached.ensures _ _ c.draw-drawn.ensures.text in
+pub loop-progress-smaller : goal.loop-progress-smaller
+loop-progress-smaller c =
+    let on = loop_draws _ _ _ _ _ _ _ (drawing_of (pen_of c.run-reached.new.text c.run-reached.result.tip) c.run-reached.result.command c.run-reached.result.look c.loop-progress.map) _ _ (walk_keeps _ _ _ (c.run-reached.ensures.walk c.loop-progress.map) c.loop-progress.invariant) c.turn-turned.result _ _ _ c.turn-turned.ensures.left
+    _ c.in-Draws.is c.turn-turned.ensures.due _ c.in-Ok.ensures.drawn c.draw-drawn.new.cursors c.in-Ok.ensures.bodies refl _ c.in-Ok.ensures.steps in
     omega (arith, on.1, on.2, walk_steps (c.run-reached.ensures.walk c.loop-progress.map) c.loop-progress.invariant.stands)
 
-pub loop-progress-preserved-in-Draws : goal.loop-progress-preserved-in-Draws
-loop-progress-preserved-in-Draws c =
-    (loop_draws _ _ _ _ _ _ _ _ (drawing_of (pen_of (text_from c.run-reached.new.words) c.run-reached.result.tip) c.run-reached.result.command c.run-reached.result.look c.loop-progress.map) _ _ (walk_keeps _ _ _ (c.run-reached.ensures.walk c.loop-progress.map) c.loop-progress.invariant) c.turn-turned.result _ _ _ _ c.turn-turned.ensures.left
-    _ c.in-Draws.is c.turn-turned.ensures.due c.draw-drawn.result c.draw-drawn.new.map c.draw-drawn.new.out c.draw-drawn.ensures.drawn c.draw-drawn.new.cells c.draw-drawn.new.places c.draw-drawn.ensures.bodies c.if-drawn.false c.after_drawing-reached.result c.after_drawing-reached.ensures _ _ c.draw-drawn.ensures.text).0
+pub loop-progress-preserved : goal.loop-progress-preserved
+loop-progress-preserved c =
+    (loop_draws _ _ _ _ _ _ _ (drawing_of (pen_of c.run-reached.new.text c.run-reached.result.tip) c.run-reached.result.command c.run-reached.result.look c.loop-progress.map) _ _ (walk_keeps _ _ _ (c.run-reached.ensures.walk c.loop-progress.map) c.loop-progress.invariant) c.turn-turned.result _ _ _ c.turn-turned.ensures.left
+    _ c.in-Draws.is c.turn-turned.ensures.due _ c.in-Ok.ensures.drawn c.draw-drawn.new.cursors c.in-Ok.ensures.bodies refl _ c.in-Ok.ensures.steps).0
+
+pub returns : goal.returns
+returns c =
+    hands_over _ _ c.args.piece.now c.args.out.now c.requires _ refl _ c.start-reached.ensures c.match-turned.answer c.run-reached.result.progress c.match-turned.cursors c.turn-turned.new.firsts (drawing_of (pen_of c.match-turned.text c.run-reached.result.tip) c.run-reached.result.command c.run-reached.result.look c.match-turned.map) c.turn-turned.new.store c.match-turned.out
+    (elim c.match-turned.branch [
+      | in-Ends w ↦ rw (w.answer-is, w.cursors-is, w.text-is, w.map-is, w.out-is) (loop_ends _ _ _ _ _ _ _ (drawing_of (pen_of c.run-reached.new.text c.run-reached.result.tip) c.run-reached.result.command c.run-reached.result.look c.loop-progress.map) _ _ (walk_keeps _ _ _ (c.run-reached.ensures.walk c.loop-progress.map) c.loop-progress.invariant) c.turn-turned.result _ _ _ c.turn-turned.ensures.left _ w.in-Ends.is)
+      | in-Draws+in-Err w ↦ rw (w.answer-is, w.cursors-is, w.text-is, w.map-is, w.out-is) (loop_refused _ _ _ _ _ _ _ (drawing_of (pen_of c.run-reached.new.text c.run-reached.result.tip) c.run-reached.result.command c.run-reached.result.look c.loop-progress.map) _ _ (walk_keeps _ _ _ (c.run-reached.ensures.walk c.loop-progress.map) c.loop-progress.invariant) c.turn-turned.result _ _ _ c.turn-turned.ensures.left
+          _ w.in-Draws.is c.turn-turned.ensures.due _ w.in-Err.ensures.drawn w.draw-drawn.new.cursors w.in-Err.ensures.bodies refl)
+    ]) _ c.finish.ensures

@@ -5,6 +5,6 @@ pub returns-then-command-eq-TEXT : goal.returns-then-command-eq-TEXT
 returns-then-command-eq-TEXT c =
     text_closes c.args.command c.args.text c.closed_text-text.result c.if-command-eq-TEXT.true c.closed_text-text.ensures
 
-pub returns : goal.returns
-returns c =
+pub returns-else-command-eq-TEXT : goal.returns-else-command-eq-TEXT
+returns-else-command-eq-TEXT c =
     none_closes c.args.command c.args.text c.if-command-eq-TEXT.false

@@ -3,9 +3,9 @@ use Rattle.text_runs.proofs.Prelude.{length}
 use Rattle.line_runs.specs.Characters.{Goes}
 use Rattle.text_runs.proofs.put_characters.Given as goal
 
-abbrev pub invariant-loop-n : goal.invariant-loop-n
-invariant-loop-n l =
-    (l.count ≤ l.n) × (l.n ≤ l.most) × (length l.out ≡ length l.initial.out) × Goes l.common l.bytes l.from l.at l.count l.initial.hand.moved l.initial.hand.text l.initial.out l.n l.hand.moved l.hand.text l.out
+abbrev pub invariant-loop-put : goal.invariant-loop-put
+invariant-loop-put l =
+    (l.count ≤ l.put.count) × (l.put.count ≤ length l.bytes) × (length l.out ≡ length l.initial.out) × Goes l.common l.bytes 0 l.at l.count l.fn.hand.moved l.fn.hand.text l.initial.out l.put.count l.put.left.moved l.put.left.text l.out
 
-abbrev pub decreases-loop-n : goal.decreases-loop-n
-decreases-loop-n l = l.most - l.n
+abbrev pub decreases-loop-put : goal.decreases-loop-put
+decreases-loop-put l = length l.bytes - l.put.count

@@ -6,6 +6,6 @@ pub returns-then-spaces : goal.returns-then-spaces
 returns-then-spaces c =
     type_spacing _ _ c.args.hand.moved c.args.hand.text _ (sym c.spaces.ensures ∙ c.if-spaces.true) c.advanced-text.ensures
 
-pub returns : goal.returns
-returns c =
+pub returns-else-spaces : goal.returns-else-spaces
+returns-else-spaces c =
     type_accent _ _ c.args.hand.moved c.args.hand.text (sym c.spaces.ensures ∙ c.if-spaces.false)

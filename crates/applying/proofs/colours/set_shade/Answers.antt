@@ -1,8 +1,7 @@
+use Rattle.rules.specs.Drawing.{shade_to}
+use Rattle.figures.proofs.Carrying.{none_carried}
 use Rattle.applying.proofs.colours.set_shade.Goals as goal
 
-pub returns : goal.returns
-returns c =
-    rw (← c.hue_of-hue.ensures.0, ← c.hue_of-hue.ensures.1, ← c.hue_of-hue.ensures.2) c.shade_to.ensures
-
-pub hue_of-hue-requires : goal.hue_of-hue-requires
-hue_of-hue-requires c = tt
+pub returns-in-Direct : goal.returns-in-Direct
+unfolding shade_to
+returns-in-Direct c = none_carried _ _ _ _ (rw c.in-Direct.is)

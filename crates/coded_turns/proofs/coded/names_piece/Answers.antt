@@ -9,5 +9,5 @@ call_piece-requires c =
 pub returns-in-Macro : goal.returns-in-Macro
 returns-in-Macro c = record { walk = c.call_piece.ensures.walk; most = c.call_piece.ensures.most; still = c.call_piece.ensures.still }
 
-pub returns : goal.returns
-returns c = record { walk = λ budget d st out few room. none; most = omega arith; still = λ h. c.requires.0 }
+pub returns-in_default : goal.returns-in_default
+returns-in_default c = record { walk = λ budget d st out few room. none; most = omega arith; still = λ h. c.requires.0 }

@@ -1,18 +1,8 @@
 use Rattle.command_steps.specs.Prelude.{arith, sym, ap, ◌∙◌}
-use Rattle.rules.specs.declared.Command.{Command}
 use Rattle.rules.specs.Drawing.{row_of}
 use Rattle.figures.proofs.Carrying.{puts_carried}
 use Rattle.command_steps.proofs.OpeningLaws.{closed, next_opened}
-use Rattle.command_steps.proofs.OpeningLaws.{row_control}
 use Rattle.command_steps.proofs.opening.open_next.Goals as goal
-
-pub returns-then-byte-lt32 : goal.returns-then-byte-lt32
-returns-then-byte-lt32 c =
-    (c.mark_next.ensures.drawn, c.mark_next.ensures.left.0, c.requires.3 ∙ row_control _ c.if-byte-lt32.true ∙ ap (λ (x : Command). row_of x.opcode) (sym c.mark_next.ensures.left.1), c.mark_next.ensures.left.2)
-
-pub finish-done-requires : goal.finish-done-requires
-finish-done-requires c =
-    rw c.role_due-role.ensures c.requires.1
 
 pub returns : goal.returns
 returns c =

@@ -1,4 +1,4 @@
-use Rattle.commands.proofs.Prelude.{le-add_right, le_refl, ap}
+use Rattle.std.proofs.Common.{le-add_right, le_refl, ap}
 use Rattle.rules.specs.declared.Command.{Command}
 use Rattle.commands.proofs.ActionLaws.{open_marked, open_unmarked}
 use Rattle.commands.proofs.opening.open_at.Goals as goal
@@ -8,6 +8,3 @@ returns-then-row-eq9 c = record { drawn = λ l t o s m k. open_marked _ _ _ _ _ 
 
 pub returns : goal.returns
 returns c = record { drawn = λ l t o s m k. open_unmarked _ _ _ _ _ _ c.new_command-command.ensures c.requires.0 c.if-row-eq9.false; opcode = ap (λ (x : Command). x.opcode) c.new_command-command.ensures; most = le-add_right _ 40 }
-
-pub new_command-command-requires : goal.new_command-command-requires
-new_command-command-requires c = tt

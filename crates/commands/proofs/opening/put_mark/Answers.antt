@@ -1,4 +1,4 @@
-use Rattle.commands.proofs.Prelude.{ap, ◌∙◌, List, ℕ}
+use Rattle.std.proofs.Common.{ap, ◌∙◌, List, ℕ}
 use Rattle.records.specs.Bytes.{overwrite}
 use Rattle.commands.proofs.ActionLaws.{mark_bytes}
 use Rattle.commands.proofs.opening.put_mark.Goals as goal

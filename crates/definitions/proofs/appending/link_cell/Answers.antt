@@ -5,6 +5,6 @@ pub returns-then-definition-eq0 : goal.returns-then-definition-eq0
 returns-then-definition-eq0 c =
     link_first _ _ _ _ _ c.if-definition-eq0.true c.set_first.ensures
 
-pub returns : goal.returns
-returns c =
+pub returns-else-definition-eq0 : goal.returns-else-definition-eq0
+returns-else-definition-eq0 c =
     link_more _ _ _ _ _ c.if-definition-eq0.false c.set_next.ensures

@@ -13,7 +13,7 @@ returns-then-not-good_count c = simp (ne_eqb _ _ c.if-definition-eq0.false, ← 
 
 pub returns-then-count-lt-MOST_BYTES : goal.returns-then-count-lt-MOST_BYTES
 unfolding store_byte
-returns-then-count-lt-MOST_BYTES c = simp (ne_eqb _ _ c.if-definition-eq0.false, ← c.count_of-count.ensures, ← c.good_count.ensures, c.if-not-good_count.false, lt-ltb _ _ c.if-count-lt-MOST_BYTES.true) record { stored = in_stored _ _ _ _ _ _ _ c.set_body_byte.ensures c.set_count.ensures; refused = (tt, tt) }
+returns-then-count-lt-MOST_BYTES c = simp (ne_eqb _ _ c.if-definition-eq0.false, ← c.count_of-count.ensures, ← c.good_count.ensures, c.if-not-good_count.false, lt-ltb _ _ c.if-count-lt-MOST_BYTES.true) record { stored = in_stored _ _ _ _ _ _ _ c.set_body_byte.ensures c.set_count.ensures; refused = tt }
 
 pub returns : goal.returns
 unfolding store_byte

@@ -1,4 +1,4 @@
 use Rattle.fresh_sessions.proofs.open.fresh_session.Goals as goal
 
 pub returns : goal.returns
-returns c = rw (c.fresh_drawing-drawing.ensures, c.fresh_sets-sets.ensures)
+returns c = rw (c.fresh_drawing.ensures, c.fresh_sets.ensures)

@@ -5,7 +5,7 @@ use Rattle.rules.specs.Promises.{Opens, opening_of}
 use Rattle.rules.specs.declared.Opened.{Opened}
 use Rattle.fresh_sessions.proofs.open.open.Goals as goal
 
--- The number of the answer follows from all that is handed over; `number-tells` (rules, Numbers) says that it determines the answer
+-- The number of the answer follows from all that is handed over; `number_tells` (rules, Numbers) says that it determines the answer
 opens : {terms : Terms} {store left : List ℕ} {r : Opened} → opening_of r left ≡ open_page terms store → Opens terms store r left
 opens e = record { number = ap (λ (o : Opening). number_of o.answer) e; same = e }
 

@@ -1,6 +1,6 @@
-use Rattle.moves.proofs.MoverLaws.{advance_of_lem}
+use Rattle.std.proofs.Common.{sym, ◌∙◌}
 use Rattle.moves.proofs.movers.advance.Goals as goal
 
 pub returns : goal.returns
 returns c =
-    advance_of_lem _ _ _ c.advanced-text.ensures c.aligned.ensures
+    c.aligned.ensures ∙ sym (c.advanced.ensures.0 c.args.pen.point c.args.pen.operand)

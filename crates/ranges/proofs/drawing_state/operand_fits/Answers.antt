@@ -9,4 +9,4 @@ returns-then-count-eq0 c = simp (eq-eqb _ _ c.if-count-eq0.true)
 pub returns : goal.returns
 unfolding begun_fits
 returns c =
-    simp (ne_eqb _ _ c.if-count-eq0.false, c.length_of.ensures, c.role_due-role.ensures, c.row_of-row.ensures)
+    simp (ne_eqb _ _ c.if-count-eq0.false, c.length_of.ensures, c.role_due.ensures, c.row_of-row.ensures)

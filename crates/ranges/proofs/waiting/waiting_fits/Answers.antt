@@ -1,3 +1,4 @@
+use Rattle.std.proofs.Common.{inl, inr}
 use Rattle.ranges.proofs.RangeLaws.{others_fit}
 use Rattle.rules.specs.Ranges.{waiting_fits}
 use borrow.Enum.Refused.{opened}
@@ -6,12 +7,7 @@ use Rattle.ranges.proofs.waiting.waiting_fits.Goals as goal
 pub returns-in-Body : goal.returns-in-Body
 unfolding waiting_fits
 returns-in-Body c =
-    rw c.in-Body.is c.name_fits.ensures
-
-pub returns-in-BodyEscape : goal.returns-in-BodyEscape
-unfolding waiting_fits
-returns-in-BodyEscape c =
-    rw c.in-BodyEscape.is c.name_fits-in-BodyEscape.ensures
+    elim c.in-Body.is [ inl e ↦ rw e c.name_fits.ensures | inr e ↦ rw e c.name_fits.ensures ]
 
 pub returns-in-Column : goal.returns-in-Column
 unfolding waiting_fits

@@ -7,14 +7,14 @@ use Rattle.reader.proofs.feed.feed.Goals as goal
 pub read-requires : goal.read-requires
 unfolding tests
 read-requires c =
-    feed_valid c.args.session c.args.store.now c.args.piece.now c.args.out.now c.verdict.result c.verdict.ensures c.in-Passes.is
+    feed_valid c.args.session c.args.store.now c.args.piece.now c.args.out.now c.verdict.result c.verdict.ensures c.in-Ok.is
 
-pub returns-in-Fails : goal.returns-in-Fails
+pub returns-in-Err : goal.returns-in-Err
 unfolding tests
-returns-in-Fails c =
-    feeds (feed_fails c.args.session c.args.store.now c.args.piece.now c.args.out.now c.verdict.result c.verdict.ensures _ c.in-Fails.is)
+returns-in-Err c =
+    feeds (feed_fails c.args.session c.args.store.now c.args.piece.now c.args.out.now c.verdict.result c.verdict.ensures _ c.in-Err.is)
 
-pub returns-in-Passes : goal.returns-in-Passes
+pub returns-in-Ok : goal.returns-in-Ok
 unfolding tests
-returns-in-Passes c =
-    feeds (c.read.ensures ∙ feed_passes c.args.session c.args.store.now c.args.piece.now c.args.out.now c.verdict.result c.verdict.ensures c.in-Passes.is)
+returns-in-Ok c =
+    feeds (c.read.ensures ∙ feed_passes c.args.session c.args.store.now c.args.piece.now c.args.out.now c.verdict.result c.verdict.ensures c.in-Ok.is)

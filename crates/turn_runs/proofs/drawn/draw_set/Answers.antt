@@ -9,4 +9,4 @@ pub returns-in-Characters : goal.returns-in-Characters
 returns-in-Characters c = record { ran = λ m. rw c.in-Characters.is (c.draw_text.ensures.ran m); most = c.draw_text.ensures.most }
 
 pub returns-in-Macro : goal.returns-in-Macro
-returns-in-Macro c = record { ran = λ m. rw c.none_drawn.ensures none; most = omega (arith, ap (λ r. r.count) c.none_drawn.ensures, c.requires) }
+returns-in-Macro c = record { ran = λ m. rw c.none_drawn.ensures none; most = omega (arith, ap (λ r. r.count) c.none_drawn.ensures) }

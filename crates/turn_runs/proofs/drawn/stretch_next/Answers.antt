@@ -8,4 +8,4 @@ returns-then-progress-eq0 c =
 
 pub returns : goal.returns
 returns c =
-    lies_body _ c.body_at.result c.if-progress-eq0.false (c.body_at.ensures.rule 0) c.body_at.ensures.held (omega (arith, c.body_at.type_inv)) c.stretch_of.ensures.gives c.stretch_of.ensures.within.0 c.stretch_of.ensures.within.1 c.stretch_of.ensures.place
+    lies_body _ c.if-progress-eq0.false (omega (arith, c.requires.1, c.if-progress-eq0.false, c.told-cursors)) c.innermost.result c.innermost.ensures (omega (arith, c.innermost.type_inv)) c.stretch_of.ensures.gives c.stretch_of.ensures.within.0 c.stretch_of.ensures.within.1 c.stretch_of.ensures.place

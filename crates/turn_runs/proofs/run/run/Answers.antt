@@ -1,12 +1,9 @@
-use Rattle.turn_runs.specs.Prelude.{arith, refl, ap, []}
+use Rattle.turn_runs.specs.Prelude.{arith, refl, ℕ, List, []}
 use Rattle.pens.specs.Tips.{pen_of}
-use Rattle.pens.specs.Words.{text_from}
-use Rattle.progress.specs.declared.Reached.{Reached}
 use Rattle.figures.specs.Carried.{drawing_of}
 use Rattle.rules.proofs.Steps.{valid_store, valid_depth}
 use Rattle.coded_turns.proofs.ProgressLaws.{walk_then, walk_stands, walk_steps}
 use Rattle.rules.proofs.DrawingRanges.{valid_domain, valid_command}
-use Rattle.turn_runs.proofs.ProgressLaws.{walk_from}
 use Rattle.turn_runs.proofs.run.run.Goals as goal
 
 pub overflow_sub-free : goal.overflow_sub-free
@@ -21,10 +18,9 @@ run_coded-coded-requires c =
 
 pub run_drawn-requires : goal.run_drawn-requires
 run_drawn-requires c =
-    let d = drawing_of (pen_of (text_from c.args.words.now) c.args.reached.tip) c.args.reached.command c.args.reached.look [] in
+    let d = drawing_of (pen_of c.args.text.now c.args.reached.tip) c.args.reached.command c.args.reached.look [] in
     let h = walk_stands (c.run_coded-coded.ensures.walk d c.args.out.now refl) (c.requires []) in
     let v = h.sound in
-    rw c.with_progress-reached.ensures
     (record { store = valid_store v; depth = valid_depth v; on = h.on; within = h.within }, valid_domain _ v.drawing, valid_command _ v.drawing)
 
 pub shape_of-store : goal.shape_of-store
@@ -32,15 +28,11 @@ shape_of-store c =
     c.run_coded-coded.auto.store
 
 pub returns : goal.returns
-returns c = let e = c.with_progress-reached.ensures in
-    let steps = ap (λ (r : Reached). r.progress.steps) e in
-    let coded = c.run_coded-coded.ensures.walk (drawing_of (pen_of (text_from c.args.words.now) c.args.reached.tip) c.args.reached.command c.args.reached.look []) c.args.out.now refl in
-    let before = walk_steps coded (c.requires []) in record {
-      walk = λ map.
-          walk_then (c.run_coded-coded.ensures.walk (drawing_of (pen_of (text_from c.args.words.now) c.args.reached.tip) c.args.reached.command c.args.reached.look map) c.args.out.now refl)
-          (walk_from c.args.words.now e (c.run_drawn.ensures.walk _ map));
-      most = omega (arith, steps, c.run_drawn.ensures.most, c.run_coded-coded.ensures.most, before);
+returns c = let coded = λ (map : List ℕ). c.run_coded-coded.ensures.walk (drawing_of (pen_of c.args.text.now c.args.reached.tip) c.args.reached.command c.args.reached.look map) c.args.out.now refl in
+    let before = walk_steps (coded []) (c.requires []) in record {
+      walk = λ map. walk_then (coded map) (c.run_drawn.ensures.walk _ map);
+      most = omega (arith, c.run_drawn.ensures.most, c.run_coded-coded.ensures.most, before);
       spent = λ h.
-          let still = c.run_drawn.ensures.still (omega (arith, h, steps, before)) in
-          rw (still.1, still.2, e) (c.run_coded-coded.ensures.spent (omega (arith, h, steps, still.0)));
+          let still = c.run_drawn.ensures.still (omega (arith, h, before)) in
+          rw (still.1, still.2) (c.run_coded-coded.ensures.spent (omega (arith, h, still.0)));
     }

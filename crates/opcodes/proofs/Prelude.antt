@@ -1,5 +1,0 @@
--- What the files of this crate use of the libraries, under one name
-pub use mathlib.Core.Path.{refl, ◌∙◌}
-pub use mathlib.Core.List.{List, []}
-pub use Prim.Native.Nat.{ℕ}
-pub use borrow.Author.Rules.{rules}
