@@ -72,12 +72,12 @@ fn after(count: usize, at: usize, moved: bool, point: Point, command: Command) -
 
 // As many bytes as are whole points, opcodes, recorded controls and dropped data, with no operand begun; the ordinary step does the rest.
 pub fn run_commands(
-    point: Point,
-    command: Command,
+    mut point: Point,
+    mut command: Command,
     look: Look,
     bytes: &[u8],
     out: &mut [u8],
-    at: usize,
+    mut at: usize,
 ) -> Ran<Moved>
     requires { (domain_fits look.domain ≡ true) × (command_fits command ≡ true) × (at ≤ length out.old) }
     ensures ran { (o : Operand) → o.count ≡ 0 → length o.bytes ≡ 8
@@ -91,10 +91,7 @@ pub fn run_commands(
     let rows = rows();
     let mut row = row_of(command.opcode);
     let mut role = role_due(row, command);
-    let mut at = at;
     let mut moved = false;
-    let mut point = point;
-    let mut command = command;
     // A place, since a turn takes a byte or a whole operand.
     let mut place: usize = 0;
     while place < bytes.len() {

@@ -43,11 +43,11 @@ ended_state Full budget p cursors firsts d st = refl
 ended_state (Refused r) budget p cursors firsts d st = refl
 
 -- What is asked of drawing
-pub drawn_due : (r : Turned) (p : Progress) (a : Action) → r.course ≡ Draws a → DrawDue p r → DrawDueBy (Draws a) p r.progress
-drawn_due r p a g u = rw g at u
+pub drawn_due : (r : Turned) (p : Progress) (a : Action) (x : Cursor) → r.course ≡ Draws a x → DrawDue p r → DrawDueBy (Draws a x) p r.progress
+drawn_due r p a x g u = rw g at u
 
-pub drawn_room : (r : Turned) (n : ℕ) (a : Action) → r.course ≡ Draws a → RoomBy r.course n → room_for_step ≤ n
-drawn_room r n a g u = rw g at u
+pub drawn_room : (r : Turned) (n : ℕ) (a : Action) (x : Cursor) → r.course ≡ Draws a x → RoomBy r.course n → room_for_step ≤ n
+drawn_room r n a x g u = rw g at u
 
 -- The tests before a feed look at no colour of the map
 pub stands_any : {piece out : List ℕ} (budget : ℕ) (x : Reached) (text : Text) (cursors : List Cursor) (firsts map st : List ℕ)
@@ -80,10 +80,10 @@ module _ (w₀ : State) (budget : ℕ) (piece out₀ : List ℕ) (p : Progress) 
     loop_ends a g = next (record { course = Ends a; state = answered a (state_at budget p cursors₁ firsts₁ d st₁); consumed = p.at; written = p.written; output = out }) (rw g)
 
     -- The turn's action drawn, of which drawing leaves z
-    module _ (a : Action) (g : r.course ≡ Draws a) (u : DrawDue p r) (z : Carried) (f : z ≡ carry (act a d) d p.written out)
-        (cursors₂ : List Cursor) (h : bodies_of p.depth cursors₂ ≡ read_on_if z.refused p.depth r.cursor (bodies_of p.depth cursors₁)) where
-      due : DrawDueBy (Draws a) p r.progress
-      due = drawn_due r p a g u
+    module _ (a : Action) (y : Cursor) (g : r.course ≡ Draws a y) (u : DrawDue p r) (z : Carried) (f : z ≡ carry (act a d) d p.written out)
+        (cursors₂ : List Cursor) (h : bodies_of p.depth cursors₂ ≡ read_on_if z.refused p.depth y (bodies_of p.depth cursors₁)) where
+      due : DrawDueBy (Draws a y) p r.progress
+      due = drawn_due r p a y g u
 
       pub loop_draws : z.refused ≡ false → (q : Progress) → q ≡ written_to z.at r.progress
           → (Kept w₀ piece out₀ (state_at budget q cursors₂ firsts₁ z.drawing st₁) q.at q.written z.output)
@@ -92,14 +92,14 @@ module _ (w₀ : State) (budget : ℕ) (piece out₀ : List ℕ) (p : Progress) 
       loop_draws n q k =
           rw k
           (next (record { course = GoesOn; state = state_at budget (written_to z.at r.progress) cursors₂ firsts₁ z.drawing st₁; consumed = r.progress.at; written = z.at; output = z.output })
-          (rw g (draw_goes budget p r.progress due.0 cursors₁ firsts₁ d st₁ out r.cursor a due.1 z f cursors₂ h n)))
+          (rw g (draw_goes budget p r.progress due.0 cursors₁ firsts₁ d st₁ out y a due.1 z f cursors₂ h n)))
 
       pub loop_refused : z.refused ≡ true
           → record { answer = Refused TooManyVertices; state = answered (Refused TooManyVertices) (state_at budget p cursors₂ firsts₁ z.drawing st₁); consumed = p.at; written = p.written; output = z.output }
           ≡ handed (whole_reading w₀ piece out₀) out₀
       loop_refused n =
           next (record { course = Ends (Refused TooManyVertices); state = answered (Refused TooManyVertices) (state_at budget p cursors₂ firsts₁ z.drawing st₁); consumed = p.at; written = p.written; output = z.output })
-          (rw g (draw_refused budget p r.progress due.0 cursors₁ firsts₁ d st₁ out r.cursor a due.1 z f cursors₂ h n))
+          (rw g (draw_refused budget p r.progress due.0 cursors₁ firsts₁ d st₁ out y a due.1 z f cursors₂ h n))
 
 -- From a session that is lent, and to what is handed over
 module _ (s : Session) (st₀ piece out₀ : List ℕ) (valid : Valid (state_lent s st₀)) (t₀ : Text) (f₀ : t₀ ≡ s.drawing.pen.text) (x₀ : Reached) (e₀ : x₀ ≡ start_of s) where

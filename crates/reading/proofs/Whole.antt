@@ -100,7 +100,7 @@ module _ (w₀ : State) (piece out₀ : List ℕ) (w : State) (at written : ℕ)
       × (w.session.steps < w.session.budget)
   Next (Ends·course a) x =
       record { answer = a; state = x.state; consumed = x.consumed; written = x.written; output = x.output } ≡ handed (whole_reading w₀ piece out₀) out₀
-  Next (Draws a) x = Unit
+  Next (Draws a y) x = Unit
 
   turn_next : {n : ℕ} (t : Turn n) → Kept w₀ piece out₀ w at written out
       → steps_left w ≡ n → turn (ltb (length out - written) room_for_step) n w (drop at piece) ≡ t

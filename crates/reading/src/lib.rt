@@ -66,11 +66,11 @@ pub fn read(session: Session, store: &mut [u8], piece: &[u8], out: &mut [u8]) ->
                     ..reached
                 };
             }
-            Course::Draws(action) => {
+            Course::Draws(action, cursor) => {
                 let drawn = draw(
                     action,
                     turned.progress,
-                    turned.cursor,
+                    cursor,
                     reached,
                     &mut text,
                     &mut cursors,

@@ -138,8 +138,3 @@ pub sets_on : (bytes : List ℕ) (from : ℕ) (l : Look) (c d e : Command) (t u 
     → SetsTo bytes from c l t n d u → SetsTo bytes (from + n) d l u k (command_after k d) v → SetsTo bytes from c l t (n + k) e v
 sets_on bytes from l c d e t u v n k f a b =
     subst (λ (x : Command). SetsTo bytes from c l t (n + k) x v) (sym f) (sets_then bytes from l c d (command_after k d) t u v n k a b)
-
--- No operand more
-pub sets_end : (bytes : List ℕ) (from : ℕ) (l : Look) (c d : Command) (t u : Text) (n k : ℕ) → k ≡ 0 → SetsTo bytes from c l t (n + k) (command_after k d) u → SetsTo bytes from c l t n d u
-sets_end bytes from l c d t u n k e s =
-    subst (λ (j : ℕ). SetsTo bytes from c l t j d u) (add-zero n) (subst (λ (j : ℕ). SetsTo bytes from c l t (n + j) (command_after j d) u) e s)

@@ -1,7 +1,7 @@
 // Runs of TEXT's operands, put straight into the text that is lent.
 #![tactic(auto)]
 
-ghost use Rattle.std.specs.Prelude.{◌≡◌, true, List, ℕ, ◌+◌, ◌≤◌, ◌<◌, length};
+ghost use Rattle.std.specs.Prelude.{◌≡◌, true, List, ℕ, Some, None, ◌+◌, ◌≤◌, ◌<◌, length};
 ghost use Rattle.rules.specs.Numbers.{room_for_step};
 ghost use Rattle.rules.specs.Ranges.{domain_fits};
 ghost use Rattle.rules.specs.declared.Set.{Set};
@@ -21,75 +21,65 @@ const TEXT_ROW: Row = Row {
     filled: false,
 };
 
-// The size of the character field, if it comes whole: how many bytes it has, or none.
-#[tactic(auto, using(crate::proofs::SettingLaws::field_set, crate::proofs::SettingLaws::none_set, rules::proofs::DrawingRanges::multi_range))]
-fn put_size(text: &mut Text, domain: Domain, bytes: &[u8]) -> usize
+// Puts the size of the character field, if it comes whole: how many bytes it has. Else the text stays.
+#[tactic(auto, using(rules::proofs::DrawingRanges::multi_range))]
+fn put_size(text: &mut Text, domain: Domain, bytes: &[u8]) -> Option<usize>
     requires { domain_fits domain ≡ true }
-    ensures set { (c : Command) (l : Look) → c.opcode ≡ 34 → c.due ≡ Due.Third → l.domain ≡ domain
-        → SetsTo bytes.now 0 c l text.old result (command_after result c) text.new }
-    ensures most { result ≤ length bytes.now }
+    ensures set { (n : ℕ) → result ≡ Some n → (c : Command) (l : Look) → c.opcode ≡ 34 → c.due ≡ Due.Third → l.domain ≡ domain
+        → SetsTo bytes.now 0 c l text.old n (command_after n c) text.new }
+    ensures kept { result ≡ None → text.new ≡ text.old }
+    ensures most { (n : ℕ) → result ≡ Some n → (1 ≤ n) × (n ≤ length bytes.now) }
 {
     let n = domain.multi as usize;
     if bytes.len() < n {
-        return 0;
+        return None;
     }
-    match whole_point(&bytes[..n], domain.three) {
-        None => 0,
-        Some(size) => {
-            text.field = size;
-            n
-        }
-    }
+    text.field = whole_point(&bytes[..n], domain.three)?;
+    Some(n)
 }
 
-// The operand that is due, if it comes whole: how many bytes it has, or none.
-#[tactic(auto, using(crate::proofs::SettingLaws::first_set, crate::proofs::SettingLaws::second_set, crate::proofs::SettingLaws::none_set))]
-fn put_operand(text: &mut Text, due: Due, domain: Domain, bytes: &[u8]) -> usize
+// Puts the operand that is due, if it comes whole: how many bytes it has. Else the text stays.
+#[tactic(auto, using(crate::proofs::SettingLaws::first_set, crate::proofs::SettingLaws::second_set))]
+fn put_operand(text: &mut Text, due: Due, domain: Domain, bytes: &[u8]) -> Option<usize>
     requires { domain_fits domain ≡ true }
-    ensures set { (c : Command) (l : Look) → c.opcode ≡ 34 → c.due ≡ due → l.domain ≡ domain
-        → SetsTo bytes.now 0 c l text.old result (command_after result c) text.new }
-    ensures most { result ≤ length bytes.now }
+    ensures set { (n : ℕ) → result ≡ Some n → (c : Command) (l : Look) → c.opcode ≡ 34 → c.due ≡ due → l.domain ≡ domain
+        → SetsTo bytes.now 0 c l text.old n (command_after n c) text.new }
+    ensures kept { result ≡ None → text.new ≡ text.old }
+    ensures most { (n : ℕ) → result ≡ Some n → (1 ≤ n) × (n ≤ length bytes.now) }
 {
-    if bytes.is_empty() {
-        return 0;
-    }
-    let byte = bytes[0];
+    let byte = *bytes.first()?;
     if byte / 64 != 1 {
-        return 0;
+        return None;
     }
     match due {
         Due::First => {
             text.settings = byte_one(byte, text.settings);
-            1
+            Some(1)
         }
         Due::Second => {
             text.settings = byte_two(byte, text.settings);
-            1
+            Some(1)
         }
         Due::Third => put_size(text, domain, bytes),
-        Due::Past => 0,
+        Due::Past => None,
     }
 }
 
 // As many operands as come whole. The command after them is left. How long an operand is, is known once it is put, so the loop
 // takes what was put.
-fn put_operands(text: &mut Text, command: Command, look: Look, bytes: &[u8]) -> Taken<Command>
+fn put_operands(text: &mut Text, mut command: Command, look: Look, bytes: &[u8]) -> Taken<Command>
     requires { (command.opcode ≡ 34) × (domain_fits look.domain ≡ true) }
     ensures set { SetsTo bytes.now 0 command look text.old result.count result.left text.new }
     ensures most { result.count ≤ length bytes.now }
 {
-    let mut command = command;
     let mut count: usize = 0;
-    loop {
-        let taken = put_operand(text, command.due, look.domain, &bytes[count..]);
-        if taken == 0 {
-            return Taken {
-                count,
-                left: command,
-            };
-        }
+    while let Some(taken) = put_operand(text, command.due, look.domain, &bytes[count..]) {
         count += taken;
         command = with_due(TEXT_ROW, command);
+    }
+    Taken {
+        count,
+        left: command,
     }
 }
 

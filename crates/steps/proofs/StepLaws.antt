@@ -17,7 +17,6 @@ use Rattle.rules.specs.declared.Text.{Text}
 use Rattle.rules.specs.declared.Waiting.{Waiting}
 use Rattle.rules.specs.Numbers.{most_depth, room_for_step}
 use Rattle.rules.specs.Store.{first_of}
-use Rattle.rules.specs.Bodies.{nowhere}
 use Rattle.rules.specs.Coding.{Reaction, Refuse, Call, React, react, after_escape}
 use Rattle.rules.specs.Drawing.{Outcome, NotDrawn, Draw, act}
 use Rattle.rules.specs.Record.{bytes_of_all}
@@ -70,22 +69,22 @@ on_depth zero x y h = h
 on_depth (suc i) x y h = refl
 
 abbrev stops : Progress → Refusal → Turned
-stops p r = record { course = Ends·course (Refused r); progress = p; cursor = nowhere }
+stops p r = record { course = Ends·course (Refused r); progress = p }
 
 abbrev goes : Progress → Turned
-goes p = record { course = GoesOn; progress = p; cursor = nowhere }
+goes p = record { course = GoesOn; progress = p }
 
 -- To a reading that ends nothing is due
-pub ends_due : (p q : Progress) (r : Turned) (a : Answer) → r ≡ record { course = Ends·course a; progress = q; cursor = nowhere } → DrawDue p r
+pub ends_due : (p q : Progress) (r : Turned) (a : Answer) → r ≡ record { course = Ends·course a; progress = q } → DrawDue p r
 ends_due p q r a e = rw e tt
 
-pub ends_room : (q : Progress) (r : Turned) (a : Answer) (n : ℕ) → r ≡ record { course = Ends·course a; progress = q; cursor = nowhere } → RoomBy r.course n
+pub ends_room : (q : Progress) (r : Turned) (a : Answer) (n : ℕ) → r ≡ record { course = Ends·course a; progress = q } → RoomBy r.course n
 ends_room q r a n e = rw e tt
 
 pub some_room : (c : Course) (n : ℕ) → room_for_step ≤ n → RoomBy c n
 some_room GoesOn n h = tt
 some_room (Ends·course a) n h = tt
-some_room (Draws a) n h = h
+some_room (Draws a x) n h = h
 
 -- A call
 module _ (budget : ℕ) (p : Progress) (cursors : List Cursor) (firsts : List ℕ) (d : Drawing) (st out : List ℕ) (x : Cursor) (name : ℕ) (s : Sets) (u : Waiting) where
@@ -138,7 +137,7 @@ module _ (budget : ℕ) (p : Progress) (cursors : List Cursor) (firsts : List �
 
   -- One that is left to drawing
   pub draws_left : (a : Action) (after depth : ℕ) (q : Progress) → q ≡ steps_to after depth s u p
-      → left_of budget p (record { course = Draws a; progress = q; cursor = x }) cursors firsts d st out ≡ asked a
+      → left_of budget p (record { course = Draws a x; progress = q }) cursors firsts d st out ≡ asked a
   draws_left a after depth q k = rw k
 
 -- A refusal leaves the drawing state, so it may be read as it was
@@ -159,7 +158,7 @@ module _ (budget : ℕ) (p q : Progress) (e : q ≡ steps_to (consumed_by (sourc
     (z : Carried) (f : z ≡ carry (act a d) d p.written out)
     (cursors₁ : List Cursor) (g : bodies_of p.depth cursors₁ ≡ read_on_if z.refused p.depth x (bodies_of p.depth cursors)) where
   abbrev drawn : Left
-  drawn = left_by (Draws a) budget p q x cursors firsts d st out
+  drawn = left_by (Draws a x) budget p q cursors firsts d st out
 
   pub draw_refused : z.refused ≡ true
       → record { course = Ends·course (Refused TooManyVertices); state = answered (Refused TooManyVertices) (state_at budget p cursors₁ firsts z.drawing st); consumed = p.at; written = p.written; output = z.output } ≡ drawn

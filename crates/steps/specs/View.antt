@@ -48,8 +48,8 @@ answered (Refused r) w = with_status (Stopped r) w
 
 -- What a turn leaves by its course, from the progress p to q. One that ends the reading leaves p. Where an action is to be drawn, that is
 -- what drawing it leaves, the innermost body then read on at x
-abbrev pub left_by : Course → ℕ → Progress → Progress → Cursor → List Cursor → List ℕ → Drawing → List ℕ → List ℕ → Left
-left_by GoesOn budget p q x cursors firsts d st out =
+abbrev pub left_by : Course → ℕ → Progress → Progress → List Cursor → List ℕ → Drawing → List ℕ → List ℕ → Left
+left_by GoesOn budget p q cursors firsts d st out =
     record {
       course = GoesOn;
       state = state_at budget q cursors firsts d st;
@@ -57,7 +57,7 @@ left_by GoesOn budget p q x cursors firsts d st out =
       written = q.written;
       output = out;
     }
-left_by (Ends a) budget p q x cursors firsts d st out =
+left_by (Ends a) budget p q cursors firsts d st out =
     record {
       course = Ends a;
       state = answered a (state_at budget p cursors firsts d st);
@@ -65,20 +65,20 @@ left_by (Ends a) budget p q x cursors firsts d st out =
       written = p.written;
       output = out;
     }
-left_by (Draws a) budget p q x cursors firsts d st out =
+left_by (Draws a x) budget p q cursors firsts d st out =
     leaves
     (step_by p.depth x (on_outcome (act a d) a (coding_of q.sets q.waiting firsts) st) (state_at budget p cursors firsts d st))
     p.at p.written out
 
 abbrev pub left_of : ℕ → Progress → Turned → List Cursor → List ℕ → Drawing → List ℕ → List ℕ → Left
 left_of budget p r cursors firsts d st out =
-    left_by r.course budget p r.progress r.cursor cursors firsts d st out
+    left_by r.course budget p r.progress cursors firsts d st out
 
 -- Where an action is to be drawn, q is the progress of an accepted step from p
 abbrev pub DrawDueBy : Course → Progress → Progress → Type 0
 DrawDueBy GoesOn p q = Unit
 DrawDueBy (Ends a) p q = Unit
-DrawDueBy (Draws a) p q =
+DrawDueBy (Draws a x) p q =
     (q ≡ steps_to (consumed_by (source_at p.depth) p.at) q.depth q.sets q.waiting p)
     × DepthAfter a p.depth q.depth × (p.depth ≤ 8)
 
@@ -89,7 +89,7 @@ DrawDue p r = DrawDueBy r.course p r.progress
 abbrev pub RoomBy : Course → ℕ → Type 0
 RoomBy GoesOn n = Unit
 RoomBy (Ends a) n = Unit
-RoomBy (Draws a) n = room_for_step ≤ n
+RoomBy (Draws a x) n = room_for_step ≤ n
 
 -- What drawing an action leaves, for where the reading stood: the drawing state, the output and the place after its records
 abbrev pub drawn_of : Result Reached TooManyVertices → Reached → Text → List ℕ → List ℕ → Carried

@@ -4,7 +4,6 @@
 ghost use Rattle.std.specs.Prelude.{◌≡◌, true, false, List, ℕ, ◌+◌, ◌≤◌, length, is_err, IfOk, OnErr};
 ghost use Rattle.rules.specs.Numbers.{room_for_step};
 ghost use Rattle.rules.specs.declared.Drawing.{Drawing};
-ghost use Rattle.rules.specs.Bodies.{nowhere};
 ghost use Rattle.rules.specs.Drawing.{act};
 ghost use Rattle.rules.specs.Ranges.{waiting_fits, drawing_fits};
 ghost use Rattle.rules.specs.Step.{on_outcome, call, opens_inside};
@@ -24,7 +23,7 @@ use figures::TooManyVertices;
 use pens::tips::pen_of;
 use progress::{Progress, Reached, after_drawing};
 use reactions::{Effect, Reacted, sets_after};
-use rules::{Action, Answer, Cursor, Drawing, MOST_DEPTH, NOWHERE, Refusal, Sets, Text, Waiting};
+use rules::{Action, Answer, Cursor, Drawing, MOST_DEPTH, Refusal, Sets, Text, Waiting};
 use store::names::first_of;
 use tables::escapes::after_escape;
 
@@ -35,30 +34,27 @@ pub struct Onward {
     pub cursor: Cursor,
 }
 
-// A step was accepted, the reading ends, or the step is accepted if its action can be drawn. An enum of its own: none of the three is an
-// error, and each is one arm of the reading.
+// A step was accepted, the reading ends, or the step is accepted if its action can be drawn: the innermost body then goes on at the cursor.
+// An enum of its own: none of the three is an error, and each is one arm of the reading.
 #[derive(Clone, Copy)]
 pub enum Course {
     GoesOn,
     Ends(Answer),
-    Draws(Action),
+    Draws(Action, Cursor),
 }
 
-// The cursor is where the innermost body goes on once the action is drawn.
 #[derive(Clone, Copy)]
 pub struct Turned {
     pub course: Course,
     pub progress: Progress,
-    pub cursor: Cursor,
 }
 
 pub fn ends(progress: Progress, answer: Answer) -> Turned
-    ensures { result ≡ record { course = Course.Ends answer; progress = progress; cursor = nowhere } }
+    ensures { result ≡ record { course = Course.Ends answer; progress = progress } }
 {
     Turned {
         course: Course::Ends(answer),
         progress,
-        cursor: NOWHERE,
     }
 }
 
@@ -113,7 +109,6 @@ fn call(
             depth: depth + 1,
             ..progress
         },
-        cursor: NOWHERE,
     }
 }
 
@@ -145,7 +140,6 @@ fn idle(
             waiting: reacted.waiting,
             ..progress
         },
-        cursor: NOWHERE,
     }
 }
 
@@ -161,7 +155,7 @@ fn draws(progress: Progress, onward: Onward, action: Action, reacted: Reacted) -
     ensures due { DrawDue progress result }
 {
     Turned {
-        course: Course::Draws(action),
+        course: Course::Draws(action, onward.cursor),
         progress: Progress {
             at: onward.at,
             steps: progress.steps + 1,
@@ -170,7 +164,6 @@ fn draws(progress: Progress, onward: Onward, action: Action, reacted: Reacted) -
             depth: depth_after(action, progress.depth),
             ..progress
         },
-        cursor: onward.cursor,
     }
 }
 

@@ -152,8 +152,8 @@ fn put_format(
 // turn takes as many characters as come, so no iterator counts ahead.
 fn put_text(
     common: Common,
-    hand: Hand,
-    pen: Pen,
+    mut hand: Hand,
+    mut pen: Pen,
     bytes: &[u8],
     out: &mut [u8],
     at: usize,
@@ -164,8 +164,6 @@ fn put_text(
     ensures most { result.count ≤ length bytes.now }
 {
     let mut count: usize = 0;
-    let mut hand = hand;
-    let mut pen = pen;
     loop {
         let put = put_characters(common, hand, bytes, count, out, at);
         pen = pen_of(put.left, pen);

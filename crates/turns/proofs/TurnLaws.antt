@@ -116,7 +116,7 @@ module _ (budget : ℕ) (p : Progress) (cursors : List Cursor) (firsts : List �
   unfolding turn
   comes t l m g h = rw (removed, m, g) h
 
-  pub turn_done : nothing_left p.depth rest ≡ true → (r : Turned) → r ≡ record { course = Ends·course Done; progress = p; cursor = nowhere }
+  pub turn_done : nothing_left p.depth rest ≡ true → (r : Turned) → r ≡ record { course = Ends·course Done; progress = p }
       → Answers (left_of budget p r cursors firsts drawing st out)
   unfolding seek on_sought leaves
   turn_done h r g = comes (Ends Done entry) _ refl (rw (none_sought p.depth entry rest h)) (rw g)
@@ -129,7 +129,7 @@ module _ (budget : ℕ) (p : Progress) (cursors : List Cursor) (firsts : List �
     unfolding seek
     found = byte_sought p.depth entry rest refl h
 
-    pub turn_full : free < room_for_step → (r : Turned) → r ≡ record { course = Ends·course Full; progress = p; cursor = nowhere }
+    pub turn_full : free < room_for_step → (r : Turned) → r ≡ record { course = Ends·course Full; progress = p }
         → Answers (left_of budget p r cursors firsts drawing st out)
     unfolding leaves
     turn_full k r g =
@@ -139,7 +139,7 @@ module _ (budget : ℕ) (p : Progress) (cursors : List Cursor) (firsts : List �
       enough : ltb free room_for_step ≡ false
       enough = le-ltb free room_for_step k
 
-      pub turn_spent : budget ≤ p.steps → (r : Turned) → r ≡ record { course = Ends·course (Refused BudgetUsed); progress = p; cursor = nowhere }
+      pub turn_spent : budget ≤ p.steps → (r : Turned) → r ≡ record { course = Ends·course (Refused BudgetUsed); progress = p }
           → Answers (left_of budget p r cursors firsts drawing st out)
       unfolding leaves
       turn_spent n r g =
@@ -149,7 +149,7 @@ module _ (budget : ℕ) (p : Progress) (cursors : List Cursor) (firsts : List �
         some_left : budget - p.steps ≡ suc (budget - (p.steps + 1))
         some_left = omega arith
 
-        pub turn_bad : x ≡ None → (r : Turned) → r ≡ record { course = Ends·course (Refused OutOfRange); progress = p; cursor = nowhere }
+        pub turn_bad : x ≡ None → (r : Turned) → r ≡ record { course = Ends·course (Refused OutOfRange); progress = p }
             → Answers (left_of budget p r cursors firsts drawing st out)
         unfolding on_sought leaves
         turn_bad j r g = comes (stopped OutOfRange entry) _ some_left (rw (found, ← i, j, enough)) (rw g)

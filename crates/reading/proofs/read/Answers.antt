@@ -47,19 +47,19 @@ pub draw-drawn-requires : goal.draw-drawn-requires
 draw-drawn-requires c =
     let k = walk_keeps _ _ _ (c.run-reached.ensures.walk c.loop-progress.map) c.loop-progress.invariant in
     let v = k.stands.sound in
-    let free = drawn_room c.turn-turned.result _ _ c.in-Draws.is c.turn-turned.ensures.room in
+    let free = drawn_room c.turn-turned.result _ _ _ c.in-Draws.is c.turn-turned.ensures.room in
     (valid_depth v, v.drawing, omega (arith, free, k.stands.within))
 
 pub loop-progress-smaller : goal.loop-progress-smaller
 loop-progress-smaller c =
     let on = loop_draws _ _ _ _ _ _ _ (drawing_of (pen_of c.run-reached.new.text c.run-reached.result.tip) c.run-reached.result.command c.run-reached.result.look c.loop-progress.map) _ _ (walk_keeps _ _ _ (c.run-reached.ensures.walk c.loop-progress.map) c.loop-progress.invariant) c.turn-turned.result _ _ _ c.turn-turned.ensures.left
-    _ c.in-Draws.is c.turn-turned.ensures.due _ c.in-Ok.ensures.drawn c.draw-drawn.new.cursors c.in-Ok.ensures.bodies refl _ c.in-Ok.ensures.steps in
+    _ _ c.in-Draws.is c.turn-turned.ensures.due _ c.in-Ok.ensures.drawn c.draw-drawn.new.cursors c.in-Ok.ensures.bodies refl _ c.in-Ok.ensures.steps in
     omega (arith, on.1, on.2, walk_steps (c.run-reached.ensures.walk c.loop-progress.map) c.loop-progress.invariant.stands)
 
 pub loop-progress-preserved : goal.loop-progress-preserved
 loop-progress-preserved c =
     (loop_draws _ _ _ _ _ _ _ (drawing_of (pen_of c.run-reached.new.text c.run-reached.result.tip) c.run-reached.result.command c.run-reached.result.look c.loop-progress.map) _ _ (walk_keeps _ _ _ (c.run-reached.ensures.walk c.loop-progress.map) c.loop-progress.invariant) c.turn-turned.result _ _ _ c.turn-turned.ensures.left
-    _ c.in-Draws.is c.turn-turned.ensures.due _ c.in-Ok.ensures.drawn c.draw-drawn.new.cursors c.in-Ok.ensures.bodies refl _ c.in-Ok.ensures.steps).0
+    _ _ c.in-Draws.is c.turn-turned.ensures.due _ c.in-Ok.ensures.drawn c.draw-drawn.new.cursors c.in-Ok.ensures.bodies refl _ c.in-Ok.ensures.steps).0
 
 pub returns : goal.returns
 returns c =
@@ -67,5 +67,5 @@ returns c =
     (elim c.match-turned.branch [
       | in-Ends w ↦ rw (w.answer-is, w.cursors-is, w.text-is, w.map-is, w.out-is) (loop_ends _ _ _ _ _ _ _ (drawing_of (pen_of c.run-reached.new.text c.run-reached.result.tip) c.run-reached.result.command c.run-reached.result.look c.loop-progress.map) _ _ (walk_keeps _ _ _ (c.run-reached.ensures.walk c.loop-progress.map) c.loop-progress.invariant) c.turn-turned.result _ _ _ c.turn-turned.ensures.left _ w.in-Ends.is)
       | in-Draws+in-Err w ↦ rw (w.answer-is, w.cursors-is, w.text-is, w.map-is, w.out-is) (loop_refused _ _ _ _ _ _ _ (drawing_of (pen_of c.run-reached.new.text c.run-reached.result.tip) c.run-reached.result.command c.run-reached.result.look c.loop-progress.map) _ _ (walk_keeps _ _ _ (c.run-reached.ensures.walk c.loop-progress.map) c.loop-progress.invariant) c.turn-turned.result _ _ _ c.turn-turned.ensures.left
-          _ w.in-Draws.is c.turn-turned.ensures.due _ w.in-Err.ensures.drawn w.draw-drawn.new.cursors w.in-Err.ensures.bodies refl)
+          _ _ w.in-Draws.is c.turn-turned.ensures.due _ w.in-Err.ensures.drawn w.draw-drawn.new.cursors w.in-Err.ensures.bodies refl)
     ]) _ c.finish.ensures
