@@ -1,11 +1,11 @@
 -- Data bytes and the operands they make, carried out.
-use Rattle.std.specs.Prelude.{◌≤◌, ◌<◌, ◌≡◌, Result, Ok, Err}
+use Rattle.std.specs.Prelude.{◌≤◌, ◌<◌, ◌≡◌, Result, Ok, Err, is_ok}
 use Rattle.std.proofs.Common.{ℕ, suc, sym, ap, ◌∙◌, true, false, List, [], length, eq-eqb, ne_eqb, lt-ltb, le-ltb}
 use Rattle.rules.specs.declared.Drawing.{Drawing}
 use Rattle.rules.specs.declared.Row.{Row}
 use Rattle.rules.specs.declared.Role.{Role}
 use Rattle.rules.specs.Operands.{begun}
-use Rattle.rules.specs.Drawing.{length_of, with_operand, Outcome, NotDrawn, Draw, apply, next_operand, role_due, apply_begun, with_byte, loose_byte, take_byte, data_byte}
+use Rattle.rules.specs.Drawing.{length_of, Outcome, NotDrawn, Draw, apply, next_operand, role_due, apply_begun, with_byte, loose_byte, take_byte, data_byte}
 use Rattle.rules.proofs.Bools.{false_true, true_false, pick_yes, pick_no}
 use Rattle.figures.specs.declared.TooManyVertices.{TooManyVertices}
 use Rattle.figures.specs.Carried.{carried_of, Carried, carry}
@@ -48,25 +48,27 @@ module _ (r : Row) (b : ℕ) (d : Drawing) (x : Role) (n : ℕ) (e : x ≡ role_
   data_last h g = data_due ∙ pick_no _ _ (ne_eqb n 0 h) ∙ pick_no _ _ (le-ltb _ n g)
 
 -- The last byte is applied, joined: it left the state c, the output m and the answer x
-module _ (r : Row) (b : ℕ) (d c : Drawing) (at : ℕ) (l m : List ℕ) (x : Result ℕ TooManyVertices) where
+module _ (r : Row) (b : ℕ) (d c : Drawing) (at : ℕ) (l m : List ℕ) where
   abbrev joined : Drawing
   joined = with_byte b d
 
-  -- A refusal leaves the operand without the byte
-  pub last_refused : (e : TooManyVertices) → x ≡ Err e → carried_of (Err e) at c m ≡ carry (apply_begun r joined) joined at l
-      → data_byte r b d ≡ apply_begun r joined → carried_of x at (with_operand d.pen.operand c) m ≡ carry (data_byte r b d) d at l
+  -- A refusal leaves the state without the byte
+  pub last_refused : (x : Result ℕ TooManyVertices) → is_ok x ≡ false → carried_of x at c m ≡ carry (apply_begun r joined) joined at l
+      → data_byte r b d ≡ apply_begun r joined → carried_of x at d m ≡ carry (data_byte r b d) d at l
   unfolding carry
-  last_refused e i h k = rw i (by (apply_begun r joined) h ∙ ap (λ (y : Outcome). carry y d at l) (sym k))
+  last_refused (Ok n) i h k = true_false i
+  last_refused (Err e) i h k = by (apply_begun r joined) h ∙ ap (λ (y : Outcome). carry y d at l) (sym k)
     where
-      by : (o : Outcome) → carried_of (Err e) at c m ≡ carry o joined at l → carried_of (Err e) at (with_operand d.pen.operand c) m ≡ carry o d at l
-      by (NotDrawn q) h = ap (λ (y : Carried). record { refused = true; drawing = with_operand d.pen.operand y.drawing; at = y.at; output = y.output }) h
+      by : (o : Outcome) → carried_of (Err e) at c m ≡ carry o joined at l → carried_of (Err e) at d m ≡ carry o d at l
+      by (NotDrawn q) h = ap (λ (y : Carried). record { refused = true; drawing = d; at = y.at; output = y.output }) h
       by (Draw f rs) h = true_false (ap (λ (y : Carried). y.refused) h)
 
   -- What is drawn does not depend on the state before
-  pub last_drawn : (n : ℕ) → x ≡ Ok n → carried_of (Ok n) at c m ≡ carry (apply_begun r joined) joined at l
+  pub last_drawn : (x : Result ℕ TooManyVertices) → is_ok x ≡ true → carried_of x at c m ≡ carry (apply_begun r joined) joined at l
       → data_byte r b d ≡ apply_begun r joined → carried_of x at c m ≡ carry (data_byte r b d) d at l
   unfolding carry
-  last_drawn n i h k = rw i (by (apply_begun r joined) h ∙ ap (λ (y : Outcome). carry y d at l) (sym k))
+  last_drawn (Err e) i h k = false_true i
+  last_drawn (Ok n) i h k = by (apply_begun r joined) h ∙ ap (λ (y : Outcome). carry y d at l) (sym k)
     where
       by : (o : Outcome) → carried_of (Ok n) at c m ≡ carry o joined at l → carried_of (Ok n) at c m ≡ carry o d at l
       by (NotDrawn q) h = false_true (ap (λ (y : Carried). y.refused) h)

@@ -111,14 +111,17 @@ pub fn data_byte(
     if bytes_due == 0 {
         return loose_byte(row, role, byte, drawing, out, at);
     }
-    let begun = drawing.pen.operand;
-    join_byte(&mut drawing.pen.operand, byte);
-    if drawing.pen.operand.count < bytes_due {
+    let mut operand = drawing.pen.operand;
+    join_byte(&mut operand, byte);
+    if operand.count < bytes_due {
+        drawing.pen.operand = operand;
         return Ok(at);
     }
-    let drawn = apply_begun(row, drawing, out, at);
-    if let Err(TooManyVertices) = drawn {
-        drawing.pen.operand = begun;
+    let mut next = *drawing;
+    next.pen.operand = operand;
+    let drawn = apply_begun(row, &mut next, out, at);
+    if drawn.is_ok() {
+        *drawing = next;
     }
     drawn
 }

@@ -9,12 +9,16 @@ ghost use Rattle.std.specs.Prelude.{◌≡◌, Ok};
 use pages::Page;
 use pages::error::PageError;
 use reader::number::number_of;
+use rules::RECORD_SIZE;
 use std::fs::File;
 use std::io;
 use std::io::{Read, Seek, SeekFrom};
 use std::rt::{Env, Files};
 
 const MOST_ROUNDS: u32 = 1000000;
+
+// The records of a call: at most so many bytes.
+const OUTPUT_SIZE: usize = 4096 * RECORD_SIZE;
 
 // The number that decimal digits stand for, as far as they are digits and stay in range.
 fn number_in(text: &[u8]) -> u32 {
@@ -65,7 +69,11 @@ fn keep_page<R: Files + AllocGlobal>(
 }
 
 // Reads the page once more from its start: the page that is kept, else the file.
-fn read_again(rt: &impl Files, kept: Option<&[u8]>, page: &mut Page) -> Result<(), PageError> {
+fn read_again(
+    rt: &impl Files,
+    kept: Option<&[u8]>,
+    page: &mut Page<OUTPUT_SIZE>,
+) -> Result<(), PageError> {
     page.reopen();
     if let Some(mut bytes) = kept {
         return page.read(&mut bytes, &mut drop_records);
@@ -79,7 +87,7 @@ fn read_rounds(
     input: &mut impl Read,
     kept: Option<&[u8]>,
     rounds: u32,
-    page: &mut Page,
+    page: &mut Page<OUTPUT_SIZE>,
 ) -> Result<(), PageError> {
     page.read(input, &mut drop_records)?;
     for _ in 1..rounds {
@@ -98,7 +106,7 @@ fn feed_page<R: Files + AllocGlobal + Print + Env>(
     rt: &R,
     input: &mut impl Read,
 ) -> Result<(), PageError> {
-    let mut page = Page::new();
+    let mut page = Page::<OUTPUT_SIZE>::new();
     let rounds = rounds_asked(rt);
     match keep_page(rt, input, rounds).map_err(PageError::Input)? {
         Some(bytes) => read_rounds(rt, &mut &bytes[..], Some(&bytes[..]), rounds, &mut page)?,

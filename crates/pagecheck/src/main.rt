@@ -219,7 +219,9 @@ fn load<'a>(
     name: &[u8],
     suffix: &[u8],
     into: &'a mut [u8],
-) -> &'a [u8] {
+) -> &'a [u8]
+    ensures { length result.now ≤ length into.old }
+{
     let mut path = [0u8; PATH_SIZE];
     let n = put_path(&mut path, group, name, suffix);
     let done = match open(rt, &path[..n]) {

@@ -9,10 +9,10 @@ use rules::RECORD_SIZE;
 use std::io;
 use std::io::Read;
 
-// The lines of so many records are written at a time.
+// The lines of so many records are written at a time, as soon as they are read.
 const RECORDS: usize = 1024;
 
-const PART_SIZE: usize = RECORDS * RECORD_SIZE;
+const OUTPUT_SIZE: usize = RECORDS * RECORD_SIZE;
 
 // No record's line is longer.
 const LINE_SIZE: usize = 128;
@@ -20,7 +20,7 @@ const LINE_SIZE: usize = 128;
 const TEXT_SIZE: usize = RECORDS * LINE_SIZE;
 
 fn write_lines(rt: &impl Print, records: &[u8], text: &mut [u8; TEXT_SIZE]) -> io::Result<()> {
-    for part in records.chunks(PART_SIZE) {
+    for part in records.chunks(OUTPUT_SIZE) {
         let n = listing::put_lines(text, part, part.len());
         rt.write_all(&text[..n])?;
     }
@@ -28,7 +28,7 @@ fn write_lines(rt: &impl Print, records: &[u8], text: &mut [u8; TEXT_SIZE]) -> i
 }
 
 fn list_page(rt: &impl Print, input: &mut impl Read) -> Result<(), PageError> {
-    let mut page = Page::new();
+    let mut page = Page::<OUTPUT_SIZE>::new();
     let mut text = [0u8; TEXT_SIZE];
     let mut write = |records: &[u8]| write_lines(rt, records, &mut text);
     page.read(input, &mut write)?;

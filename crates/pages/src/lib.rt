@@ -2,8 +2,8 @@
 // nothing more is read.
 #![tactic(auto)]
 
-ghost use Rattle.std.specs.Prelude.{◌≡◌, ◌≤◌, ◌<◌, length, take, replicate, IfOk, OnOk, Ok};
-ghost use Rattle.rules.specs.Numbers.{store_size};
+ghost use Rattle.std.specs.Prelude.{◌≡◌, ◌≤◌, ◌<◌, length, take, replicate, IfOk, OnOk, IsOk, Ok};
+ghost use Rattle.rules.specs.Numbers.{store_size, room_for_step};
 ghost use Rattle.rules.specs.Reading.{steps_left};
 ghost use Rattle.rules.specs.Step.{state_lent};
 ghost use Rattle.rules.specs.Calls.{with_budget, open_page, end};
@@ -16,15 +16,12 @@ use error::PageError;
 use reader::end::end;
 use reader::feed::feed_from;
 use reader::open::open;
-use rules::{Answer, RECORD_SIZE, STORE_SIZE, Session};
+use rules::{Answer, STORE_SIZE, Session};
 use std::io;
 use std::io::Read;
 
 // A piece has at most so many bytes.
 pub const PIECE_SIZE: usize = 65536;
-
-// The records of a call: at most so many bytes.
-pub const OUTPUT_SIZE: usize = 4096 * RECORD_SIZE;
 
 // What follows a piece: the next piece, or the end of the page.
 #[derive(Clone, Copy, PartialEq, Eq)]
@@ -33,18 +30,19 @@ pub enum Next {
     End,
 }
 
-// A page on its way: what its calls hand over, the piece that is read, and the output that each call is lent.
+// A page on its way: what its calls hand over, the piece that is read, and the output of so many bytes that each call is lent, whose
+// records are handed on before the next.
 #[derive(Drop)]
-pub struct Page {
+pub struct Page<const OUTPUT_SIZE: usize> {
     pub session: Session,
     pub store: [u8; STORE_SIZE],
     pub piece: [u8; PIECE_SIZE],
     pub out: [u8; OUTPUT_SIZE],
 }
 
-impl Page {
+impl<const OUTPUT_SIZE: usize> Page<OUTPUT_SIZE> {
     // A page opened with the greatest budget.
-    pub fn new() -> Page
+    pub fn new() -> Page<OUTPUT_SIZE>
         ensures { state_lent result.session result.store ≡ (open_page (with_budget 4294967295) (replicate store_size 0)).state }
     {
         let mut store = [0u8; STORE_SIZE];
@@ -70,9 +68,11 @@ impl Page {
         hand_on: &mut F,
     ) -> Result<Next, PageError>
         requires bytes { n ≤ length self.old.piece }
+        requires room { room_for_step ≤ OUTPUT_SIZE }
         requires callable { (state : F) (records : _) → F.pre state records }
-        ensures { IfOk result (λ next. PieceRead Next.Piece Next.End (state_lent self.old.session self.old.store)
+        ensures read { IfOk result (λ next. PieceRead Next.Piece Next.End (state_lent self.old.session self.old.store)
             (take n self.old.piece) next (state_lent self.new.session self.new.store)) }
+        ensures told { ((state : F) (records : _) (answer : _) (left : F) → F.step state records answer left → IsOk answer) → IsOk result }
     {
         let mut at = 0;
         // It counts nothing: it goes on until a call answers other than full.
@@ -100,7 +100,8 @@ impl Page {
         input: &mut impl Read,
         hand_on: &mut F,
     ) -> Result<Next, PageError>
-        requires { (state : F) (records : _) → F.pre state records }
+        requires room { room_for_step ≤ OUTPUT_SIZE }
+        requires callable { (state : F) (records : _) → F.pre state records }
         ensures follows { IfOk result (λ next. AfterPiece (state_lent self.old.session self.old.store)
             (state_lent self.new.session self.new.store) next) }
         ensures less { result ≡ Ok Next.Piece →
@@ -119,7 +120,8 @@ impl Page {
         input: &mut impl Read,
         hand_on: &mut F,
     ) -> Result<(), PageError>
-        requires { (state : F) (records : _) → F.pre state records }
+        requires room { room_for_step ≤ OUTPUT_SIZE }
+        requires callable { (state : F) (records : _) → F.pre state records }
         ensures { OnOk result (PiecesRead (state_lent self.old.session self.old.store)
             (state_lent self.new.session self.new.store)) }
     {

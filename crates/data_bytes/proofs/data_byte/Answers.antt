@@ -11,17 +11,17 @@ returns-then-bytes_due-eq0 c =
     ∙ ap (λ (o : Outcome). carry o c.args.drawing.now c.args.at c.args.out.now)
     (sym (data_loose c.args.row c.args.byte c.args.drawing.now _ _ c.role_due-role.ensures c.length_of-bytes_due.ensures c.if-bytes_due-eq0.true))
 
-pub returns-then-drawing-bytes_due : goal.returns-then-drawing-bytes_due
-returns-then-drawing-bytes_due c =
+pub returns-then-operand-bytes_due : goal.returns-then-operand-bytes_due
+returns-then-operand-bytes_due c =
     rw c.join_byte.ensures
-    (none_carried _ _ _ _ (data_joined _ _ _ _ _ c.role_due-role.ensures c.length_of-bytes_due.ensures c.if-bytes_due-eq0.false (rw c.join_byte.ensures at c.if-drawing-bytes_due.true)))
+    (none_carried _ _ _ _ (data_joined _ _ _ _ _ c.role_due-role.ensures c.length_of-bytes_due.ensures c.if-bytes_due-eq0.false (rw c.join_byte.ensures at c.if-operand-bytes_due.true)))
 
-pub returns-in-Err : goal.returns-in-Err
-returns-in-Err c =
-    let last = data_last _ _ _ _ _ c.role_due-role.ensures c.length_of-bytes_due.ensures c.if-bytes_due-eq0.false (rw c.join_byte.ensures at c.if-drawing-bytes_due.false) in
-    last_refused c.args.row _ c.args.drawing.now c.apply_begun-drawn.new.drawing _ _ _ _ c.in-Err.field-0 c.in-Err.is (rw c.join_byte.ensures at (c.in-Err.ensures {u = tt})) last
+pub returns-then-is_ok : goal.returns-then-is_ok
+returns-then-is_ok c =
+    let last = data_last _ _ _ _ _ c.role_due-role.ensures c.length_of-bytes_due.ensures c.if-bytes_due-eq0.false (rw c.join_byte.ensures at c.if-operand-bytes_due.false) in
+    last_drawn c.args.row _ c.args.drawing.now _ _ _ _ _ (sym (c.is_ok.ensures.value) ∙ c.if-is_ok.true) (rw c.join_byte.ensures at c.apply_begun-drawn.ensures) last
 
-pub returns-in_default : goal.returns-in_default
-returns-in_default c =
-    let last = data_last _ _ _ _ _ c.role_due-role.ensures c.length_of-bytes_due.ensures c.if-bytes_due-eq0.false (rw c.join_byte.ensures at c.if-drawing-bytes_due.false) in
-    last_drawn c.args.row _ c.args.drawing.now _ _ _ _ _ c.in_default.field-0 c.in_default.is (rw c.join_byte.ensures at (c.in_default.ensures {u = tt})) last
+pub returns-else-is_ok : goal.returns-else-is_ok
+returns-else-is_ok c =
+    let last = data_last _ _ _ _ _ c.role_due-role.ensures c.length_of-bytes_due.ensures c.if-bytes_due-eq0.false (rw c.join_byte.ensures at c.if-operand-bytes_due.false) in
+    last_refused c.args.row _ c.args.drawing.now _ _ _ _ _ (sym (c.is_ok.ensures.value) ∙ c.if-is_ok.false) (rw c.join_byte.ensures at c.apply_begun-drawn.ensures) last

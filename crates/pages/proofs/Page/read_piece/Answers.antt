@@ -12,8 +12,8 @@ pub returns-then-n-eq0-clause-follows : goal.returns-then-n-eq0-clause-follows
 returns-then-n-eq0-clause-follows g c = none
 
 pub returns-clause-follows : goal.returns-clause-follows
-returns-clause-follows g c = after_piece _ _ _ _ c.feed.ensures
+returns-clause-follows g c = after_piece _ _ _ _ c.feed.ensures.read
 
 pub returns-clause-less : goal.returns-clause-less
 returns-clause-less g c =
-    λ e. read_less (rw e at c.feed.ensures) piece-end refl (grind (arith, length-take-le))
+    λ e. read_less (rw e at c.feed.ensures.read) piece-end refl (grind (arith, length-take-le))
