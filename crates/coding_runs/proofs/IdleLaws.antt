@@ -35,11 +35,11 @@ module _ (bytes : List ℕ) (from : ℕ) (x : Coded) where
   idle_none zero y h none = refl
   idle_none (suc n) y h (more d e) = absurd (omega arith)
 
-pub idle_still : (bytes rest : List ℕ) (n m : ℕ) (x : Coded) (s : Sets) (w w₁ : Waiting) (f f₁ st st₁ : List ℕ) → m ≤ 0
-    → Idle rest 0 (coded (coding_of s w f) st) m (coded (coding_of s w₁ f₁) st₁)
-    → Idle bytes 0 x n (coded (coding_of s w f) st) → Idle bytes 0 x n (coded (coding_of s w f₁) st₁)
-idle_still bytes rest n m x s w w₁ f f₁ st st₁ h d r =
-    let e = idle_none rest 0 (coded (coding_of s w f) st) m (coded (coding_of s w₁ f₁) st₁) h d in
+pub idle_still : (bytes rest : List ℕ) (from at n m : ℕ) (x : Coded) (s : Sets) (w w₁ : Waiting) (f f₁ st st₁ : List ℕ) → m ≤ 0
+    → Idle rest at (coded (coding_of s w f) st) m (coded (coding_of s w₁ f₁) st₁)
+    → Idle bytes from x n (coded (coding_of s w f) st) → Idle bytes from x n (coded (coding_of s w f₁) st₁)
+idle_still bytes rest from at n m x s w w₁ f f₁ st st₁ h d r =
+    let e = idle_none rest at (coded (coding_of s w f) st) m (coded (coding_of s w₁ f₁) st₁) h d in
     rw (ap (λ (y : Coded). y.coding.firsts) e, ap (λ (y : Coded). y.store) e) r
 
 -- A run of bytes that a definition stores

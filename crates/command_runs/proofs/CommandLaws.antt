@@ -27,7 +27,7 @@ use Rattle.figures.specs.Tracing.{pen_at, moved_if}
 use Rattle.figures.proofs.Carrying.{carry_none}
 use Rattle.drawing_runs.specs.declared.Moved.{Moved}
 use Rattle.drawing_runs.specs.declared.Ran.{Ran}
-use Rattle.drawing_runs.specs.Run.{ActsAs, Run, standing}
+use Rattle.drawing_runs.specs.Run.{ActsAs, Run, none, standing}
 use Rattle.drawing_runs.specs.Strokes.{rested, pen_after, PassesTo}
 use Rattle.command_steps.specs.Asked.{asked}
 use Rattle.command_steps.proofs.OpeningLaws.{run_step}
@@ -86,42 +86,49 @@ module _ (p₀ : Pen) where
   after_opened zero k false false p q e s = refl
   after_opened (suc n) k false false p q e s = refl
 
--- The state that a run from the pen p₀ has come to after i bytes
-abbrev pub Reaches : List ℕ → Carried → Pen → ℕ → Bool → Point → Command → Look → List ℕ → ℕ → List ℕ → Type 0
-Reaches bytes x p₀ i w p c l m at out = Run Pdi bytes 0 x i (standing (pen_after i w p₀ p) c l m at out)
+-- The state that a run from the pen p₀ has come to at the place i
+abbrev pub Reaches : List ℕ → ℕ → Carried → Pen → ℕ → Bool → Point → Command → Look → List ℕ → ℕ → List ℕ → Type 0
+Reaches bytes from x p₀ i w p c l m at out = Run Pdi bytes from x (i - from) (standing (pen_after (i - from) w p₀ p) c l m at out)
 
--- The byte there
-byte_there : (bytes : List ℕ) (i : ℕ) {a : Action} → ActsAs Pdi (get_or bytes i 0) a → ActsAs Pdi (get_or bytes (0 + i) 0) a
-byte_there bytes i {a} = subst (λ (j : ℕ). ActsAs Pdi (get_or bytes j 0) a) (omega arith)
+pub reaches_none : (bytes : List ℕ) (from : ℕ) (p₀ : Pen) (c : Command) (l : Look) (m : List ℕ) (at : ℕ) (out : List ℕ)
+    → Reaches bytes from (standing p₀ c l m at out) p₀ from false p₀.point c l m at out
+reaches_none bytes from p₀ c l m at out =
+    let e : 0 ≡ from - from = omega arith in
+    subst (λ (n : ℕ). Run Pdi bytes from (standing p₀ c l m at out) n (standing (pen_after n false p₀ p₀.point) c l m at out)) e none
 
 -- A step more from there leaves the pen y
-reaches_step : (bytes : List ℕ) (x : Carried) (p₀ : Pen) (i : ℕ) (w v : Bool) (p q : Point) (c : Command) (l : Look) (m : List ℕ) (at : ℕ) (out : List ℕ)
+reaches_step : (bytes : List ℕ) (from : ℕ) (x : Carried) (p₀ : Pen) (i : ℕ) (w v : Bool) (p q : Point) (c : Command) (l : Look) (m : List ℕ) (at : ℕ) (out : List ℕ)
     (a : Action) (c' : Command) (at' : ℕ) (out' : List ℕ)
-    → (v ≡ false → q ≡ p) → Stands p₀ i w p → at + room_for_step ≤ length out → ActsAs Pdi (get_or bytes i 0) a
-    → standing (rested (moved_if v q (pen_after i w p₀ p))) c' l m at' out' ≡ carry (act a (drawing_of (pen_after i w p₀ p) c l m)) (drawing_of (pen_after i w p₀ p) c l m) at out
-    → Reaches bytes x p₀ i w p c l m at out
-    → Reaches bytes x p₀ (i + 1) (w || v) q c' l m at' out'
-reaches_step bytes x p₀ i w v p q c l m at out a c' at' out' e s room acts t run =
+    → from ≤ i → (v ≡ false → q ≡ p) → Stands p₀ (i - from) w p → at + room_for_step ≤ length out → ActsAs Pdi (get_or bytes i 0) a
+    → standing (rested (moved_if v q (pen_after (i - from) w p₀ p))) c' l m at' out' ≡ carry (act a (drawing_of (pen_after (i - from) w p₀ p) c l m)) (drawing_of (pen_after (i - from) w p₀ p) c l m) at out
+    → Reaches bytes from x p₀ i w p c l m at out
+    → Reaches bytes from x p₀ (i + 1) (w || v) q c' l m at' out'
+reaches_step bytes from x p₀ i w v p q c l m at out a c' at' out' h e s room acts t run =
+    let n = i - from in
+    let here : i ≡ from + n = omega arith in
+    let last : suc n ≡ i + 1 - from = omega arith in
     let stepped =
-    run_step a (standing (rested (moved_if v q (pen_after i w p₀ p))) c' l m at' out') run (byte_there bytes i acts) room refl t in
-    let next = subst (λ (y : Pen). Run Pdi bytes 0 x (i + 1) (standing y c' l m at' out')) (after_opened p₀ i i w v p q e s) stepped in
-    subst (λ (j : ℕ). Run Pdi bytes 0 x (i + 1) (standing (pen_after j (w || v) p₀ q) c' l m at' out')) (sym (add-one i)) next
+    run_step a (standing (rested (moved_if v q (pen_after n w p₀ p))) c' l m at' out') run (subst (λ (j : ℕ). ActsAs Pdi (get_or bytes j 0) a) here acts) room refl t in
+    let next = subst (λ (y : Pen). Run Pdi bytes from x (n + 1) (standing y c' l m at' out')) (after_opened p₀ n n w v p q e s) stepped in
+    subst (λ (j : ℕ). Run Pdi bytes from x j (standing (pen_after j (w || v) p₀ q) c' l m at' out')) last
+    (subst (λ (j : ℕ). Run Pdi bytes from x j (standing (pen_after (suc n) (w || v) p₀ q) c' l m at' out')) (add-one n) next)
 
 -- A byte opens or closes
-pub reaches_opened : (bytes : List ℕ) (x : Carried) (p₀ : Pen) (i : ℕ) (w v : Bool) (p q : Point) (c : Command) (l : Look) (m : List ℕ) (at : ℕ) (out : List ℕ)
+pub reaches_opened : (bytes : List ℕ) (from : ℕ) (x : Carried) (p₀ : Pen) (i : ℕ) (w v : Bool) (p q : Point) (c : Command) (l : Look) (m : List ℕ) (at : ℕ) (out : List ℕ)
     (a : Action) (c' : Command) (at' : ℕ) (out' : List ℕ)
-    → p₀.operand.count ≡ 0 → (v ≡ false → q ≡ p) → Stands p₀ i w p → at + room_for_step ≤ length out → ActsAs Pdi (get_or bytes i 0) a
+    → from ≤ i → p₀.operand.count ≡ 0 → (v ≡ false → q ≡ p) → Stands p₀ (i - from) w p → at + room_for_step ≤ length out → ActsAs Pdi (get_or bytes i 0) a
     → ((t : Text) (o : Operand) → o.count ≡ 0 → standing (rested (moved_if v q (pen_at p t o))) c' l m at' out' ≡ carry (act a (drawing_of (pen_at p t o) c l m)) (drawing_of (pen_at p t o) c l m) at out)
     → (u : Bool) → u ≡ (w || v)
-    → Reaches bytes x p₀ i w p c l m at out
-    → Reaches bytes x p₀ (i + 1) u q c' l m at' out'
-reaches_opened bytes x p₀ i w v p q c l m at out a c' at' out' z e s room acts t u f run =
-    let y = pen_after i w p₀ p in
+    → Reaches bytes from x p₀ i w p c l m at out
+    → Reaches bytes from x p₀ (i + 1) u q c' l m at' out'
+reaches_opened bytes from x p₀ i w v p q c l m at out a c' at' out' h z e s room acts t u f run =
+    let n = i - from in
+    let y = pen_after n w p₀ p in
     let opened =
-    subst (λ (y : Pen). standing (rested (moved_if v q y)) c' l m at' out' ≡ carry (act a (drawing_of y c l m)) (drawing_of y c l m) at out) (sym (after_at p₀ i w p s))
-    (t y.text y.operand (after_fresh p₀ i w p z)) in
-    subst (λ (b : Bool). Reaches bytes x p₀ (i + 1) b q c' l m at' out') (sym f)
-    (reaches_step bytes x p₀ i w v p q c l m at out a c' at' out' e s room acts opened run)
+    subst (λ (y : Pen). standing (rested (moved_if v q y)) c' l m at' out' ≡ carry (act a (drawing_of y c l m)) (drawing_of y c l m) at out) (sym (after_at p₀ n w p s))
+    (t y.text y.operand (after_fresh p₀ n w p z)) in
+    subst (λ (b : Bool). Reaches bytes from x p₀ (i + 1) b q c' l m at' out') (sym f)
+    (reaches_step bytes from x p₀ i w v p q c l m at out a c' at' out' h e s room acts opened run)
 
 -- Data is dropped, and nothing changes
 data_nothing : (b : ℕ) (d : Drawing) (at : ℕ) (out : List ℕ) (r : Row) → r ≡ row_of d.command.opcode → role_of r.pattern d.command.due ≡ Dropped
@@ -130,28 +137,42 @@ data_nothing b d at out r own role =
     sym (carry_none d d at out)
     ∙ ap (λ (o : Outcome). carry o d at out) (sym (dropped_same b d (subst (λ (x : Row). role_of x.pattern d.command.due ≡ Dropped) own role)))
 
-pub reaches_dropped : (bytes : List ℕ) (x : Carried) (p₀ : Pen) (i : ℕ) (w : Bool) (p : Point) (c : Command) (l : Look) (m : List ℕ) (at : ℕ) (out : List ℕ) (r : Row)
-    → 1 ≤ i → at + room_for_step ≤ length out → 64 ≤ get_or bytes i 0 → get_or bytes i 0 ≤ 127 → r ≡ row_of c.opcode → role_of r.pattern c.due ≡ Dropped
-    → Reaches bytes x p₀ i w p c l m at out
-    → Reaches bytes x p₀ (i + 1) w p c l m at out
-reaches_dropped bytes x p₀ i w p c l m at out r some room least most own role run =
+pub reaches_dropped : (bytes : List ℕ) (from : ℕ) (x : Carried) (p₀ : Pen) (i : ℕ) (w : Bool) (p : Point) (c : Command) (l : Look) (m : List ℕ) (at : ℕ) (out : List ℕ) (r : Row)
+    → 1 ≤ i - from → at + room_for_step ≤ length out → 64 ≤ get_or bytes i 0 → get_or bytes i 0 ≤ 127 → r ≡ row_of c.opcode → role_of r.pattern c.due ≡ Dropped
+    → Reaches bytes from x p₀ i w p c l m at out
+    → Reaches bytes from x p₀ (i + 1) w p c l m at out
+reaches_dropped bytes from x p₀ i w p c l m at out r some room least most own role run =
     let b = get_or bytes i 0 in
-    let k = i - 1 in
-    let begun : i ≡ suc k = omega arith in
-    let d = drawing_of (pen_after i w p₀ p) c l m in
-    let stepped = run_step (Data b) (standing (pen_after i w p₀ p) c l m at out) run (byte_there bytes i (data_acts b least most)) room refl (data_nothing b d at out r own role) in
-    let same : pen_after i w p₀ p ≡ pen_after (i + 1) w p₀ p = ap (λ (j : ℕ). pen_after j w p₀ p) begun ∙ ap (λ (j : ℕ). pen_after j w p₀ p) (sym (add-one i)) in
-    subst (λ (y : Pen). Run Pdi bytes 0 x (i + 1) (standing y c l m at out)) same stepped
+    let n = i - from in
+    let k = i - from - 1 in
+    let here : i ≡ from + n = omega arith in
+    let begun : n ≡ suc k = omega arith in
+    let last : n + 1 ≡ i + 1 - from = omega arith in
+    let d = drawing_of (pen_after n w p₀ p) c l m in
+    let stepped = run_step (Data b) (standing (pen_after n w p₀ p) c l m at out) run (subst (λ (j : ℕ). ActsAs Pdi (get_or bytes j 0) (Data b)) here (data_acts b least most)) room refl (data_nothing b d at out r own role) in
+    let same : pen_after n w p₀ p ≡ pen_after (n + 1) w p₀ p = ap (λ (j : ℕ). pen_after j w p₀ p) begun ∙ ap (λ (j : ℕ). pen_after j w p₀ p) (sym (add-one n)) in
+    subst (λ (j : ℕ). Run Pdi bytes from x j (standing (pen_after j w p₀ p) c l m at out)) last
+    (subst (λ (y : Pen). Run Pdi bytes from x (n + 1) (standing y c l m at out)) same stepped)
 
 -- What the answer tells
-pub reaches_end : (bytes : List ℕ) (p₀ : Point) (c₀ : Command) (at₀ : ℕ) (out₀ : List ℕ) (i : ℕ) (w : Bool) (p : Point) (c : Command) (l : Look) (at : ℕ) (out : List ℕ) (r : Ran Moved)
-    → i ≤ length bytes → r ≡ record { count = i; at = at; left = record { moved = w; point = p }; command = c }
-    → ((o : Operand) → o.count ≡ 0 → length o.bytes ≡ 8 → (t : Text) (m : List ℕ) → Reaches bytes (standing (pen_at p₀ t o) c₀ l m at₀ out₀) (pen_at p₀ t o) i w p c l m at out)
-    → ((o : Operand) → o.count ≡ 0 → length o.bytes ≡ 8 → PassesTo bytes 0 p₀ o c₀ l at₀ out₀ r out) × (r.count ≤ length bytes)
-reaches_end bytes p₀ c₀ at₀ out₀ i w p c l at out r h e runs = (
-  (λ o z eight. subst (λ (x : Ran Moved). PassesTo bytes 0 p₀ o c₀ l at₀ out₀ x out) (sym e) (runs o z eight)),
-  subst (λ (x : Ran Moved). x.count ≤ length bytes) (sym e) h,
+pub reaches_end : (bytes : List ℕ) (from to : ℕ) (p₀ : Point) (c₀ : Command) (at₀ : ℕ) (out₀ : List ℕ) (i : ℕ) (w : Bool) (p : Point) (c : Command) (l : Look) (at : ℕ) (out : List ℕ) (r : Ran Moved)
+    → from ≤ i → i ≤ to → r ≡ record { count = i - from; at = at; left = record { moved = w; point = p }; command = c }
+    → ((o : Operand) → o.count ≡ 0 → length o.bytes ≡ 8 → (t : Text) (m : List ℕ) → Reaches bytes from (standing (pen_at p₀ t o) c₀ l m at₀ out₀) (pen_at p₀ t o) i w p c l m at out)
+    → ((o : Operand) → o.count ≡ 0 → length o.bytes ≡ 8 → PassesTo bytes from p₀ o c₀ l at₀ out₀ r out) × (from + r.count ≤ to)
+reaches_end bytes from to p₀ c₀ at₀ out₀ i w p c l at out r h k e runs = (
+  (λ o z eight. subst (λ (x : Ran Moved). PassesTo bytes from p₀ o c₀ l at₀ out₀ x out) (sym e) (runs o z eight)),
+  subst (λ (x : Ran Moved). from + x.count ≤ to) (sym e) (omega arith),
 )
+
+-- The same of a run from the place 0 on
+pub reaches_all : (bytes : List ℕ) (p₀ : Point) (c₀ : Command) (at₀ : ℕ) (out₀ : List ℕ) (i : ℕ) (w : Bool) (p : Point) (c : Command) (l : Look) (at : ℕ) (out : List ℕ) (r : Ran Moved)
+    → i ≤ length bytes → r ≡ record { count = i; at = at; left = record { moved = w; point = p }; command = c }
+    → ((o : Operand) → o.count ≡ 0 → length o.bytes ≡ 8 → (t : Text) (m : List ℕ) → Reaches bytes 0 (standing (pen_at p₀ t o) c₀ l m at₀ out₀) (pen_at p₀ t o) i w p c l m at out)
+    → ((o : Operand) → o.count ≡ 0 → length o.bytes ≡ 8 → PassesTo bytes 0 p₀ o c₀ l at₀ out₀ r out) × (r.count ≤ length bytes)
+reaches_all bytes p₀ c₀ at₀ out₀ i w p c l at out r h e runs =
+    let n : i ≡ i - 0 = omega arith in
+    let whole = reaches_end bytes 0 (length bytes) p₀ c₀ at₀ out₀ i w p c l at out r (omega arith) h (subst (λ (k : ℕ). r ≡ record { count = k; at = at; left = record { moved = w; point = p }; command = c }) n e) runs in
+    (whole.0, omega (arith, whole.1))
 
 -- The row of a byte in the table
 pub row_next : {table : List Row} → table ≡ rows → (k b : ℕ) (d : Row) → k ≡ b - 32 → b < 64 → get_or table k d ≡ row_of b

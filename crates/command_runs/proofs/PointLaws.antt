@@ -1,5 +1,5 @@
 -- Points that come whole, in a run.
-use Rattle.std.specs.Prelude.{◌+◌, ◌-◌, ◌≤◌, ◌≡◌, slice_range}
+use Rattle.std.specs.Prelude.{◌+◌, ◌-◌, ◌≤◌, ◌≡◌}
 use Rattle.command_runs.proofs.Prelude.{ℕ, suc, arith, refl, sym, ap, ◌∙◌, subst, Bool, true, List, length, take, drop}
 use Rattle.rules.specs.declared.Command.{Command}
 use Rattle.rules.specs.declared.Domain.{Domain}
@@ -26,7 +26,7 @@ use Rattle.figures.specs.Tracing.{pen_at, is_point}
 use Rattle.figures.proofs.Carrying.{puts_carried}
 use Rattle.drawing_runs.specs.Run.{Run, standing}
 use Rattle.drawing_runs.specs.Strokes.{rested, pen_after}
-use Rattle.drawing_runs.proofs.RunLaws.{each_data, whole_operand, whole_tells, rest_all, rest_length}
+use Rattle.drawing_runs.proofs.RunLaws.{each_data, whole_operand, whole_tells}
 use Rattle.drawing_runs.proofs.StrokeLaws.{after_moved}
 use Rattle.command_runs.proofs.CommandLaws.{Reaches, Stands, after_fresh, after_eight, after_at}
 
@@ -98,27 +98,31 @@ points_more bytes from n x p u o c l m at out k row role three v q c' rs at' out
     rw (ec, er)
     (point_run bytes from n x p u o c l m at out k room (rw (eo, er) at h) e some most fit zero z.0 q c' rs at' out' (rw (eo, er) at t') y run)
 
--- The same after i bytes of a run from the pen p₀
-pub reaches_point : (bytes : List ℕ) (x : Carried) (p₀ : Pen) (i : ℕ) (w : Bool) (p : Point) (c : Command) (l : Look) (m : List ℕ) (at : ℕ) (out : List ℕ) (k : ℕ)
+-- The same at the place i that a run from the pen p₀ has come to
+pub reaches_point : (bytes : List ℕ) (from : ℕ) (x : Carried) (p₀ : Pen) (i : ℕ) (w : Bool) (p : Point) (c : Command) (l : Look) (m : List ℕ) (at : ℕ) (out : List ℕ) (k : ℕ)
     (row : Row) (role : Role) (three : Bool) (v q : Point) (c' : Command) (rs : List Record) (at' : ℕ) (out' : List ℕ) (c'' : Command)
-    → p₀.operand.count ≡ 0 → length p₀.operand.bytes ≡ 8 → Stands p₀ i w p
+    → from ≤ i → p₀.operand.count ≡ 0 → length p₀.operand.bytes ≡ 8 → Stands p₀ (i - from) w p
     → row ≡ row_of c.opcode → role ≡ role_of row.pattern c.due → is_point role c.vertices ≡ true
-    → at + room_for_step ≤ length out → k ≡ l.domain.multi → 1 ≤ k → k ≤ 8 → k ≤ length (slice_range bytes i (length bytes))
-    → three ≡ l.domain.three → whole_of three (take k (slice_range bytes i (length bytes))) ≡ Some v
+    → at + room_for_step ≤ length out → k ≡ l.domain.multi → 1 ≤ k → k ≤ 8 → i + k ≤ length bytes
+    → three ≡ l.domain.three → whole_of three (take k (drop i bytes)) ≡ Some v
     → ((bs : List ℕ) (u : Text) (a : Operand) → v ≡ point l.domain.three bs → apply role row bs (drawing_of (pen_at p u a) c l m) ≡ Draw (drawing_of (follow q (pen_at p u a)) c' l m) rs)
     → Puts rs at out at' out'
     → c'' ≡ with_due (due_after row.pattern c'.due) c'
-    → Reaches bytes x p₀ i w p c l m at out
-    → Reaches bytes x p₀ (i + k) true q c'' l m at' out'
-reaches_point bytes x p₀ i w p c l m at out k row role three v q c' rs at' out' c'' z eight s er eo h room e some most fit et wh t y ec run =
-    let j = i + k - 1 in
-    let o = (pen_after i w p₀ p).operand in
-    let u = (pen_after i w p₀ p).text in
-    let last : suc j ≡ i + k = omega arith in
-    let wh' = subst (λ (l : List ℕ). whole_of three (take k l) ≡ Some v) (rest_all bytes i ∙ ap (λ (n : ℕ). drop n bytes) (omega arith)) wh in
-    let before = subst (λ (y : Pen). Run Pdi bytes 0 x i (standing y c l m at out)) (after_at p₀ i w p s) run in
+    → Reaches bytes from x p₀ i w p c l m at out
+    → Reaches bytes from x p₀ (i + k) true q c'' l m at' out'
+reaches_point bytes from x p₀ i w p c l m at out k row role three v q c' rs at' out' c'' g z eight s er eo h room e some most fit et wh t y ec run =
+    let n = i - from in
+    let j = n + k - 1 in
+    let o = (pen_after n w p₀ p).operand in
+    let u = (pen_after n w p₀ p).text in
+    let here : i ≡ from + n = omega arith in
+    let last : suc j ≡ i + k - from = omega arith in
+    let next : n + k ≡ i + k - from = omega arith in
+    let wh' = subst (λ (j : ℕ). whole_of three (take k (drop j bytes)) ≡ Some v) here wh in
+    let before = subst (λ (y : Pen). Run Pdi bytes from x n (standing y c l m at out)) (after_at p₀ n w p s) run in
     let traced =
-    points_more bytes 0 i x p u o c l m at out k row role three v q c' rs at' out' c'' er eo h room e some (omega (arith, after_eight p₀ i w p eight)) (omega (arith, fit, rest_length bytes i)) (after_fresh p₀ i w p z) et wh' (λ bs a. t bs u a) y ec before in
-    let moved : rested (follow q (pen_at p u o)) ≡ pen_after (i + k) true p₀ q =
-    ap (λ (y : Pen). rested (follow q y)) (sym (after_at p₀ i w p s)) ∙ after_moved i j w p₀ p q ∙ ap (λ (j : ℕ). pen_after j true p₀ q) last in
-    subst (λ (y : Pen). Run Pdi bytes 0 x (i + k) (standing y c'' l m at' out')) moved traced
+    points_more bytes from n x p u o c l m at out k row role three v q c' rs at' out' c'' er eo h room e some (omega (arith, after_eight p₀ n w p eight)) (omega arith) (after_fresh p₀ n w p z) et wh' (λ bs a. t bs u a) y ec before in
+    let moved : rested (follow q (pen_at p u o)) ≡ pen_after (i + k - from) true p₀ q =
+    ap (λ (y : Pen). rested (follow q y)) (sym (after_at p₀ n w p s)) ∙ after_moved n j w p₀ p q ∙ ap (λ (j : ℕ). pen_after j true p₀ q) last in
+    subst (λ (y : Pen). Run Pdi bytes from x (i + k - from) (standing y c'' l m at' out')) moved
+    (subst (λ (j : ℕ). Run Pdi bytes from x j (standing (rested (follow q (pen_at p u o))) c'' l m at' out')) next traced)

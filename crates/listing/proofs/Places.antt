@@ -1,6 +1,6 @@
 -- Text put at a place
-use Rattle.std.specs.Prelude.{◌≡◌, ◌++◌, ◌+◌, ◌-◌, ◌≤◌}
-use Rattle.listing.specs.Prelude.{sym, List, ℕ, arith, length, take, drop, drop-drop, length-take-le}
+use Rattle.std.specs.Prelude.{◌≡◌, ◌++◌, ◌+◌, ◌*◌, ◌-◌, ◌/◌, ◌≤◌, ◌<◌}
+use Rattle.listing.specs.Prelude.{sym, List, ℕ, suc, min, min-le_right, le-div_iff_mul-le, arith, length, take, drop, drop-drop, length-take-le}
 use Rattle.io.specs.Counts.{IsPrefixLen}
 use Rattle.records.specs.Bytes.{overwrite}
 
@@ -14,3 +14,9 @@ copied at bs l m e =
 -- A place within the text counts its bytes
 pub counts : (n : ℕ) (l : List ℕ) → n ≤ length l → IsPrefixLen n l
 counts n l h = (h, sym (length-take-le n l h))
+
+-- The records of the output that are listed lie within it
+pub record_fits : (w n r i : ℕ) → r ≡ min w n / 40 → i < r → 40 * i + 40 ≤ n
+record_fits w n r i e h =
+    let all : suc i * 40 ≤ min w n = (le-div_iff_mul-le {k = 40} {x = suc i} {y = min w n} (omega arith)).0 (omega arith) in
+    omega (arith, min-le_right w n)

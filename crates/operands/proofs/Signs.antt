@@ -28,7 +28,7 @@ apart m n p q = go (ltb m n) refl
 
 -- Whether a sum leaves the range, by the signs
 module _ (a b s : ℕ) (fa : a < 2 ^ 32) (fb : b < 2 ^ 32) (e : s ≡ wrapped_sum a b) where
-  low_low : a < 2 ^ 31 → b < 2 ^ 31 → leb (2 ^ 31) s ≡ leaves_range a b
+  pub low_low : a < 2 ^ 31 → b < 2 ^ 31 → leb (2 ^ 31) s ≡ leaves_range a b
   unfolding leaves_range in_range wrapped_sum
   low_low p q =
       rw (low a p, low b q)
@@ -36,7 +36,7 @@ module _ (a b s : ℕ) (fa : a < 2 ^ 32) (fb : b < 2 ^ 32) (e : s ≡ wrapped_su
       (λ t. ap not (le-ltb (a + b) (2 ^ 31) (omega (arith, leb-true (2 ^ 31) s t))))
       (λ t. ap not (lt-ltb (a + b) (2 ^ 31) (omega (arith, leb-false (2 ^ 31) s t)))))
 
-  high_high : 2 ^ 31 ≤ a → 2 ^ 31 ≤ b → ltb s (2 ^ 31) ≡ leaves_range a b
+  pub high_high : 2 ^ 31 ≤ a → 2 ^ 31 ≤ b → ltb s (2 ^ 31) ≡ leaves_range a b
   unfolding leaves_range in_range wrapped_sum
   high_high p q =
       let m = suc (2 ^ 32 - suc a + (2 ^ 32 - suc b)) in
@@ -45,15 +45,15 @@ module _ (a b s : ℕ) (fa : a < 2 ^ 32) (fb : b < 2 ^ 32) (e : s ≡ wrapped_su
       (λ t. ap (λ (x : Bool). not (x && true)) (lt-leb m (2 ^ 31 - 1) (omega (arith, ltb-true s (2 ^ 31) t))))
       (λ t. ap (λ (x : Bool). not (x && true)) (le-leb m (2 ^ 31 - 1) (omega (arith, ltb-false s (2 ^ 31) t)))))
 
-  low_high : a < 2 ^ 31 → 2 ^ 31 ≤ b → false ≡ leaves_range a b
+  pub low_high : a < 2 ^ 31 → 2 ^ 31 ≤ b → false ≡ leaves_range a b
   unfolding leaves_range
   low_high p q = rw (low a p, high b q fb) (ap not (sym (apart a (suc (2 ^ 32 - suc b)) p (omega arith))))
 
-  high_low : 2 ^ 31 ≤ a → b < 2 ^ 31 → false ≡ leaves_range a b
+  pub high_low : 2 ^ 31 ≤ a → b < 2 ^ 31 → false ≡ leaves_range a b
   unfolding leaves_range
   high_low p q = rw (high a p fa, low b q) (ap not (sym (apart b (suc (2 ^ 32 - suc a)) q (omega arith))))
 
--- The same by the code's test, over the highest bits: that of the sum is neither summand's
+-- The same by a test by the highest bits: that of the sum is neither summand's
 abbrev neither : ℕ → ℕ → ℕ → Bool
 neither a b s = eqb (bit_and (bit_xor a s) (bit_xor b s)) 1
 

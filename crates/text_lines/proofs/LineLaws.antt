@@ -32,7 +32,7 @@ record Lands (r : Reach) (w : Bool) (n c v : ℕ) : Type 0 where
   pub below : v < screen_side
 
 -- The length of an advance
-abbrev advance_of : Text → ℕ
+abbrev pub advance_of : Text → ℕ
 advance_of t = stride (reach_along t.settings.path t) (spacing_quarters t.settings.spacing)
 
 -- A cursor with its coordinate on the axis of a direction replaced
@@ -239,7 +239,7 @@ stays_along Left t k = k.0
 stays_along Up t k = k.1
 stays_along Down t k = k.1
 
-unpack : (p : Point) → p.x < 2 ^ 32 → unpacked (packed p) ≡ p
+pub unpack : (p : Point) → p.x < 2 ^ 32 → unpacked (packed p) ≡ p
 unpack p h =
     let e : (p.x + 4294967296 * p.y) % 4294967296 ≡ p.x = omega (arith, h) in
     let f : (p.x + 4294967296 * p.y) / 4294967296 ≡ p.y = omega (arith, h) in

@@ -76,14 +76,21 @@ tip_fresh (suc n) true q x e = refl
 tip_fresh (suc n) false q x e = refl
 
 -- A run after a run
-pub draws_then : (s : Set) (bytes : List ℕ) (n : ℕ) (t u v : Text) (x y : Tip) (c d : Command) (l : Look) (at at₁ : ℕ) (out out₁ out₂ : List ℕ) (r : Ran Tip)
+pub draws_then : (s : Set) (bytes : List ℕ) (from n : ℕ) (t u v : Text) (x y : Tip) (c d : Command) (l : Look) (at at₁ : ℕ) (out out₁ out₂ : List ℕ) (r : Ran Tip)
+    → DrawsTo s bytes from t x c l at out (record { count = n; at = at₁; left = y; command = d }) u out₁
+    → DrawsTo s bytes (from + n) u y d l at₁ out₁ r v out₂
+    → DrawsTo s bytes from t x c l at out (record { count = n + r.count; at = r.at; left = r.left; command = r.command }) v out₂
+draws_then s bytes from n t u v x y c d l at at₁ out out₁ out₂ r a b m = run_then (a m) (b m)
+
+-- The same over the bytes that are left
+pub draws_rest : (s : Set) (bytes : List ℕ) (n : ℕ) (t u v : Text) (x y : Tip) (c d : Command) (l : Look) (at at₁ : ℕ) (out out₁ out₂ : List ℕ) (r : Ran Tip)
     → DrawsTo s bytes 0 t x c l at out (record { count = n; at = at₁; left = y; command = d }) u out₁
     → DrawsTo s (slice_range bytes n (length bytes)) 0 u y d l at₁ out₁ r v out₂
     → DrawsTo s bytes 0 t x c l at out (record { count = n + r.count; at = r.at; left = r.left; command = r.command }) v out₂
-draws_then s bytes n t u v x y c d l at at₁ out out₁ out₂ r a b m =
+draws_rest s bytes n t u v x y c d l at at₁ out out₁ out₂ r a b =
     let here : n ≡ 0 + n = omega arith in
-    let rest = run_dropped bytes n (b m) in
-    run_then (a m) (subst (λ (k : ℕ). Run s bytes k (standing (pen_of u y) d l m at₁ out₁) r.count (standing (pen_of v r.left) r.command l m r.at out₂)) here rest)
+    let rest : DrawsTo s bytes n u y d l at₁ out₁ r v out₂ = λ m. run_dropped bytes n (b m) in
+    draws_then s bytes 0 n t u v x y c d l at at₁ out out₁ out₂ r a (subst (λ (k : ℕ). DrawsTo s bytes k u y d l at₁ out₁ r v out₂) here rest)
 
 -- and is no longer than the bytes
 pub rest_most : (bytes : List ℕ) (n m : ℕ) → n ≤ length bytes → m ≤ length (slice_range bytes n (length bytes)) → n + m ≤ length bytes

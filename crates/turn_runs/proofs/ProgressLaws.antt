@@ -1,6 +1,6 @@
 -- Runs of bytes that are drawn, over the parts that the code holds
-use Rattle.std.specs.Prelude.{◌+◌, ◌-◌, ◌≤◌, ◌<◌, ◌≡◌, slice_range}
-use Rattle.turn_runs.specs.Prelude.{ℕ, zero, suc, add-zero, arith, refl, sym, ap, ◌∙◌, subst, Bool, true, false, List, length, drop, get_or, length-take, get_or-take, get_or-drop, set-get_or, ltb, ltb-true, ltb-false, lt-ltb, le-ltb}
+use Rattle.std.specs.Prelude.{◌+◌, ◌-◌, ◌≤◌, ◌<◌, ◌≡◌, ◌∷◌, slice_range}
+use Rattle.turn_runs.specs.Prelude.{ℕ, zero, suc, add-zero, arith, refl, sym, ap, ◌∙◌, subst, Bool, true, false, List, [], length, drop, get_or, set, length-take, get_or-take, get_or-drop, set-get_or, ltb, ltb-true, ltb-false, lt-ltb, le-ltb}
 use Rattle.rules.specs.declared.Action.TheVariants.{Cancel}
 use Rattle.rules.specs.declared.Coding.{Coding}
 use Rattle.rules.specs.declared.Command.{Command}
@@ -19,7 +19,7 @@ use Rattle.rules.specs.Step.{state_of}
 use Rattle.rules.proofs.Bools.{true_false, pick_all}
 use Rattle.pens.specs.Tips.{pen_of}
 use Rattle.pens.specs.declared.tips.Tip.{Tip}
-use Rattle.store.specs.Stretch.{Gives}
+use Rattle.store.specs.Stretch.{on_by, Gives}
 use Rattle.bodies.specs.Stack.{bodies_of}
 use Rattle.figures.specs.Carried.{Carried, carry, carry_out, drawing_of}
 use Rattle.drawing_runs.specs.Run.{Run, standing, none as run_none, more as run_more}
@@ -105,6 +105,18 @@ depth_body d h = omega (arith, h)
 pub past_none : (d n : ℕ) (cursors : List Cursor) → n ≡ 0 → cursors_after d n cursors ≡ cursors
 past_none zero n cursors e = refl
 past_none (suc i) n cursors e = rw (e, add-zero (get_or cursors i nowhere).place) (set-get_or cursors i nowhere)
+
+-- and no body's cell changes
+cell_kept : (cursors : List Cursor) (i j : ℕ) (x : Cursor) → x.cell ≡ (get_or cursors i nowhere).cell → (get_or (set cursors i x) j nowhere).cell ≡ (get_or cursors j nowhere).cell
+cell_kept [] i j x e = refl
+cell_kept (y ∷ l) zero zero x e = e
+cell_kept (y ∷ l) zero (suc j) x e = refl
+cell_kept (y ∷ l) (suc i) zero x e = refl
+cell_kept (y ∷ l) (suc i) (suc j) x e = cell_kept l i j x e
+
+pub past_cells : (d n : ℕ) (cursors : List Cursor) (j : ℕ) → (get_or (cursors_after d n cursors) j nowhere).cell ≡ (get_or cursors j nowhere).cell
+past_cells zero n cursors j = refl
+past_cells (suc i) n cursors j = cell_kept cursors i j (on_by n (get_or cursors i nowhere)) refl
 
 -- A run of no bytes
 run_zero : {s : Set} {bytes : List ℕ} {from n : ℕ} {x y : Carried} → Run s bytes from x n y → n ≡ 0 → x ≡ y

@@ -274,6 +274,7 @@ pub fn run_drawn<'a>(
     ensures still { result.progress.steps ≤ reached.progress.steps
         → (result.progress.steps ≡ reached.progress.steps) × (result.progress.depth ≡ reached.progress.depth)
         × (cursors.new ≡ cursors.old) }
+    ensures cells { (i : ℕ) → (get_or cursors.new i nowhere).cell ≡ (get_or cursors.old i nowhere).cell }
 {
     let progress = reached.progress;
     if !awaits_nothing(progress.waiting) {

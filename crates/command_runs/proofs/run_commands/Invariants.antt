@@ -23,9 +23,9 @@ pub record RunSoFar (point₀ : Point) (bytes : List ℕ) (out₀ : List ℕ) (i
   pub within : place ≤ length bytes
   pub long : length out ≡ length out₀
   pub room : at ≤ length out
-  pub stands : (o : Operand) (t : Text) → Stands (pen_at point₀ t o) place moved point
+  pub stands : (o : Operand) (t : Text) → Stands (pen_at point₀ t o) (place - 0) moved point
   pub runs : (o : Operand) → o.count ≡ 0 → length o.bytes ≡ 8 → (t : Text) (l : Look) (m : List ℕ) → Inks ink pel l → n ≡ l.domain.multi → domain.three ≡ l.domain.three
-      → Reaches bytes (standing (pen_at point₀ t o) command₀ l m at₀ out₀) (pen_at point₀ t o) place moved point command l m at out
+      → Reaches bytes 0 (standing (pen_at point₀ t o) command₀ l m at₀ out₀) (pen_at point₀ t o) place moved point command l m at out
 
 abbrev pub invariant-loop-place : goal.invariant-loop-place
 invariant-loop-place l =

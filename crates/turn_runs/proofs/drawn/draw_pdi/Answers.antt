@@ -4,7 +4,7 @@ use Rattle.rules.specs.Text.{fresh_text}
 use Rattle.pens.specs.declared.tips.Tip.{Tip}
 use Rattle.drawing_runs.specs.Run.{none}
 use Rattle.drawing_runs.specs.Strokes.{PassesTo}
-use Rattle.turn_runs.proofs.DrewLaws.{passes_draws, draws_then, rest_most, tip_fresh, run_within}
+use Rattle.turn_runs.proofs.DrewLaws.{passes_draws, draws_rest, rest_most, tip_fresh, run_within}
 use Rattle.turn_runs.proofs.ProgressLaws.{run_still}
 use Rattle.turn_runs.proofs.drawn.draw_pdi.Goals as goal
 
@@ -29,4 +29,4 @@ pub returns : goal.returns
 returns c = let fresh = c.none_begun.ensures.none c.if-not-none_begun.false in
     let still = run_still (c.draw_strokes-lined.ensures.ran fresh_text []) (omega (arith, c.if-lined-gt0.false)) in
     let passes = subst (λ (o : List ℕ). PassesTo c.args.bytes.now 0 c.args.tip.point c.args.tip.operand c.args.command c.args.look c.args.at o c.run_commands-passed.result c.run_commands-passed.new.out) still.3 (c.run_commands-passed.ensures.ran c.args.tip.operand fresh c.none_begun.ensures.eight) in
-    record { ran = draws_then Pdi c.args.bytes.now c.run_commands-passed.result.count _ c.args.text.now _ c.args.tip c.tip_after-tip.result c.args.command c.run_commands-passed.result.command c.args.look c.args.at c.run_commands-passed.result.at _ _ _ c.draw_next-next.result (passes_draws _ _ c.args.tip _ _ c.args.look _ _ c.run_commands-passed.result _ passes c.tip_after-tip.ensures c.args.text.now) c.draw_next-next.ensures.ran; most = rest_most c.args.bytes.now _ _ c.run_commands-passed.ensures.most c.draw_next-next.ensures.most }
+    record { ran = draws_rest Pdi c.args.bytes.now c.run_commands-passed.result.count _ c.args.text.now _ c.args.tip c.tip_after-tip.result c.args.command c.run_commands-passed.result.command c.args.look c.args.at c.run_commands-passed.result.at _ _ _ c.draw_next-next.result (passes_draws _ _ c.args.tip _ _ c.args.look _ _ c.run_commands-passed.result _ passes c.tip_after-tip.ensures c.args.text.now) c.draw_next-next.ensures.ran; most = rest_most c.args.bytes.now _ _ c.run_commands-passed.ensures.most c.draw_next-next.ensures.most }

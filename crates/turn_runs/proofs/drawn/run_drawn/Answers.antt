@@ -1,14 +1,16 @@
-use Rattle.turn_runs.specs.Prelude.{arith, refl, ap, ◌∙◌, List, [], ℕ, length}
+use Rattle.turn_runs.specs.Prelude.{arith, refl, ap, ◌∙◌, List, [], ℕ, length, get_or}
+use Rattle.rules.specs.declared.Cursor.{Cursor}
+use Rattle.rules.specs.Bodies.{nowhere}
 use Rattle.pens.specs.Tips.{pen_of}
 use Rattle.progress.specs.declared.Progress.{Progress}
 use Rattle.coded_turns.specs.Walk.{none}
 use Rattle.drawing_runs.proofs.RunLaws.{run_between}
-use Rattle.turn_runs.proofs.ProgressLaws.{walk_drawn, cancelled_steps, cancelled_depth, lies_most, past_none, part_most}
+use Rattle.turn_runs.proofs.ProgressLaws.{walk_drawn, cancelled_steps, cancelled_depth, lies_most, past_none, past_cells, part_most}
 use Rattle.turn_runs.proofs.DrewLaws.{run_within}
 use Rattle.turn_runs.proofs.drawn.run_drawn.Goals as goal
 
 pub returns-then-not-awaits_nothing : goal.returns-then-not-awaits_nothing
-returns-then-not-awaits_nothing c = record { walk = λ firsts map. none; most = omega arith; still = λ _. (refl, refl, refl) }
+returns-then-not-awaits_nothing c = record { walk = λ firsts map. none; most = omega arith; still = λ _. (refl, refl, refl); cells = λ i. refl }
 
 pub bytes_next-next-requires : goal.bytes_next-next-requires
 bytes_next-next-requires c =
@@ -19,7 +21,7 @@ slice_bounds-bytes-end c =
     omega (arith, c.bytes_next-next.ensures.lies.order, c.bytes_next-next.ensures.lies.within, ap (λ (l : List ℕ). length l) c.source_of-source.ensures)
 
 pub returns-then-not-begins_drawn : goal.returns-then-not-begins_drawn
-returns-then-not-begins_drawn c = record { walk = λ firsts map. none; most = omega arith; still = λ _. (refl, refl, refl) }
+returns-then-not-begins_drawn c = record { walk = λ firsts map. none; most = omega arith; still = λ _. (refl, refl, refl); cells = λ i. refl }
 
 pub draw_set-drew-requires : goal.draw_set-drew-requires
 draw_set-drew-requires c =
@@ -56,4 +58,5 @@ returns c = let waits = c.awaits_nothing.ensures c.if-not-awaits_nothing.false i
           c.draw_cancel-ran.result _ (c.draw_cancel-ran.ensures.cancels text) most _ c.read_past.ensures);
       most = omega (arith, steps, most, c.bytes_next-next.ensures.few.0);
       still = λ h. (omega (arith, h, steps), ap (λ (q : Progress). q.depth) c.after_cancel.ensures ∙ cancelled_depth c.draw_set-drew.result.count c.draw_cancel-ran.result.count c.draw_cancel-ran.result.at p (omega (arith, h, steps)), c.read_past.ensures ∙ past_none p.depth _ c.args.cursors.now (omega (arith, h, steps)));
+      cells = λ i. ap (λ (l : List Cursor). (get_or l i nowhere).cell) c.read_past.ensures ∙ past_cells p.depth c.draw_cancel-ran.result.count c.args.cursors.now i;
     }
