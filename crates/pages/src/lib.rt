@@ -61,7 +61,8 @@ impl<const OUTPUT_SIZE: usize> Page<OUTPUT_SIZE> {
         self.session = open(&mut self.store, u32::MAX).session;
     }
 
-    // Feeds the first bytes of the piece until they are read or a step is refused.
+    // Feeds the first bytes of the piece until they are read or a step is refused. It fails only where `hand_on` does. The output has room
+    // for a step, since a call that is full without one would be made again for ever.
     pub fn feed<F: FnMut(&[u8]) -> io::Result<()>>(
         &mut self,
         n: usize,
