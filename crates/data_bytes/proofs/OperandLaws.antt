@@ -1,5 +1,5 @@
 -- Data bytes and the operands they make, carried out.
-use Rattle.std.specs.Prelude.{◌≤◌, ◌<◌, ◌≡◌, Result, Ok, Err, is_ok}
+use Rattle.std.specs.Prelude.{◌≤◌, ◌<◌, ◌≡◌, Ok, Err}
 use Rattle.std.proofs.Common.{ℕ, suc, sym, ap, ◌∙◌, true, false, List, [], length, eq-eqb, ne_eqb, lt-ltb, le-ltb}
 use Rattle.rules.specs.declared.Drawing.{Drawing}
 use Rattle.rules.specs.declared.Row.{Row}
@@ -47,28 +47,26 @@ module _ (r : Row) (b : ℕ) (d : Drawing) (x : Role) (n : ℕ) (e : x ≡ role_
   unfolding take_byte
   data_last h g = data_due ∙ pick_no _ _ (ne_eqb n 0 h) ∙ pick_no _ _ (le-ltb _ n g)
 
--- The last byte is applied, joined: it left the state c, the output m and the answer x
+-- The last byte is applied, joined: it left the state c and the output m
 module _ (r : Row) (b : ℕ) (d c : Drawing) (at : ℕ) (l m : List ℕ) where
   abbrev joined : Drawing
   joined = with_byte b d
 
   -- A refusal leaves the state without the byte
-  pub last_refused : (x : Result ℕ TooManyVertices) → is_ok x ≡ false → carried_of x at c m ≡ carry (apply_begun r joined) joined at l
-      → data_byte r b d ≡ apply_begun r joined → carried_of x at d m ≡ carry (data_byte r b d) d at l
+  pub last_refused : (e : TooManyVertices) → carried_of (Err e) at c m ≡ carry (apply_begun r joined) joined at l
+      → data_byte r b d ≡ apply_begun r joined → carried_of (Err e) at d m ≡ carry (data_byte r b d) d at l
   unfolding carry
-  last_refused (Ok n) i h k = true_false i
-  last_refused (Err e) i h k = by (apply_begun r joined) h ∙ ap (λ (y : Outcome). carry y d at l) (sym k)
+  last_refused e h k = by (apply_begun r joined) h ∙ ap (λ (y : Outcome). carry y d at l) (sym k)
     where
       by : (o : Outcome) → carried_of (Err e) at c m ≡ carry o joined at l → carried_of (Err e) at d m ≡ carry o d at l
       by (NotDrawn q) h = ap (λ (y : Carried). record { refused = true; drawing = d; at = y.at; output = y.output }) h
       by (Draw f rs) h = true_false (ap (λ (y : Carried). y.refused) h)
 
   -- What is drawn does not depend on the state before
-  pub last_drawn : (x : Result ℕ TooManyVertices) → is_ok x ≡ true → carried_of x at c m ≡ carry (apply_begun r joined) joined at l
-      → data_byte r b d ≡ apply_begun r joined → carried_of x at c m ≡ carry (data_byte r b d) d at l
+  pub last_drawn : (n : ℕ) → carried_of (Ok n) at c m ≡ carry (apply_begun r joined) joined at l
+      → data_byte r b d ≡ apply_begun r joined → carried_of (Ok n) at c m ≡ carry (data_byte r b d) d at l
   unfolding carry
-  last_drawn (Err e) i h k = false_true i
-  last_drawn (Ok n) i h k = by (apply_begun r joined) h ∙ ap (λ (y : Outcome). carry y d at l) (sym k)
+  last_drawn n h k = by (apply_begun r joined) h ∙ ap (λ (y : Outcome). carry y d at l) (sym k)
     where
       by : (o : Outcome) → carried_of (Ok n) at c m ≡ carry o joined at l → carried_of (Ok n) at c m ≡ carry o d at l
       by (NotDrawn q) h = false_true (ap (λ (y : Carried). y.refused) h)

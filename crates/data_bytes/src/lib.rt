@@ -119,9 +119,11 @@ pub fn data_byte(
     }
     let mut next = *drawing;
     next.pen.operand = operand;
-    let drawn = apply_begun(row, &mut next, out, at);
-    if drawn.is_ok() {
-        *drawing = next;
+    match apply_begun(row, &mut next, out, at) {
+        Ok(at) => {
+            *drawing = next;
+            Ok(at)
+        }
+        Err(TooManyVertices) => Err(TooManyVertices),
     }
-    drawn
 }

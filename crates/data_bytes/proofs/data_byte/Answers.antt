@@ -16,12 +16,12 @@ returns-then-operand-bytes_due c =
     rw c.join_byte.ensures
     (none_carried _ _ _ _ (data_joined _ _ _ _ _ c.role_due-role.ensures c.length_of-bytes_due.ensures c.if-bytes_due-eq0.false (rw c.join_byte.ensures at c.if-operand-bytes_due.true)))
 
-pub returns-then-is_ok : goal.returns-then-is_ok
-returns-then-is_ok c =
+pub returns-in-Ok : goal.returns-in-Ok
+returns-in-Ok c =
     let last = data_last _ _ _ _ _ c.role_due-role.ensures c.length_of-bytes_due.ensures c.if-bytes_due-eq0.false (rw c.join_byte.ensures at c.if-operand-bytes_due.false) in
-    last_drawn c.args.row _ c.args.drawing.now _ _ _ _ _ (sym (c.is_ok.ensures.value) ∙ c.if-is_ok.true) (rw c.join_byte.ensures at c.apply_begun-drawn.ensures) last
+    last_drawn c.args.row _ c.args.drawing.now _ c.args.at _ _ _ (rw c.join_byte.ensures at (c.in-Ok.ensures {u = tt})) last
 
-pub returns-else-is_ok : goal.returns-else-is_ok
-returns-else-is_ok c =
+pub returns-in-Err : goal.returns-in-Err
+returns-in-Err c =
     let last = data_last _ _ _ _ _ c.role_due-role.ensures c.length_of-bytes_due.ensures c.if-bytes_due-eq0.false (rw c.join_byte.ensures at c.if-operand-bytes_due.false) in
-    last_refused c.args.row _ c.args.drawing.now _ _ _ _ _ (sym (c.is_ok.ensures.value) ∙ c.if-is_ok.false) (rw c.join_byte.ensures at c.apply_begun-drawn.ensures) last
+    last_refused c.args.row _ c.args.drawing.now _ _ _ _ c.in-Err.field-0 (rw c.join_byte.ensures at (c.in-Err.ensures {u = tt})) last
