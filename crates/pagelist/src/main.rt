@@ -19,6 +19,7 @@ const LINE_SIZE: usize = 128;
 
 const TEXT_SIZE: usize = RECORDS * LINE_SIZE;
 
+// The records of a call are one part; by the parts it shows that the text has room for their lines.
 fn write_lines(rt: &impl Print, records: &[u8], text: &mut [u8; TEXT_SIZE]) -> io::Result<()> {
     for part in records.chunks(OUTPUT_SIZE) {
         let n = listing::put_lines(text, part, part.len());

@@ -12,7 +12,7 @@ after_piece w v piece (Ok Piece) h = (piece, h)
 after_piece w v piece (Ok End) h = last h
 after_piece w v piece (Err e) h = h
 
--- What is Ok stands at no error
+-- Nothing is Ok and an error at once, so from one that would be, another is Ok
 pub ok_no_error : {A B D : Type 0} (r : Result A D) (s : Result B D) (e : D) → IsOk r → r ≡ Err e → IsOk s
 ok_no_error (Ok x) s e ok w = cc
 ok_no_error (Err y) s e ok w = cc
